@@ -90,12 +90,12 @@ IsRead found (Serve config store turns burst bind listen held log) =
 IsRead found (End config store ended log) =
     IsEnded (given found (codes "user") kinds.Name) (given found (codes "client") kinds.Endpoint) ended × IsFlag found (codes "log") log
     × IsText (given found (codes "config") kinds.File) config × IsText (given found (codes "store") kinds.Store) store
-IsRead found (Probe server who only) =
+IsRead found (Probe server who only log) =
     IsServer (given found (codes "IP:PORT") kinds.Endpoint) (given found (codes "config") kinds.File) server
     × IsAsker (given found (codes "user") kinds.Name) (given found (codes "password") kinds.Password) (given found (codes "config") kinds.File) who
-    × IsFlag found (codes "binding") only
-IsRead found (Status config store) =
-    IsText (given found (codes "config") kinds.File) config × IsText (given found (codes "store") kinds.Store) store
+    × IsFlag found (codes "binding") only × IsFlag found (codes "log") log
+IsRead found (Status config store log) =
+    IsFlag found (codes "log") log × IsText (given found (codes "config") kinds.File) config × IsText (given found (codes "store") kinds.Store) store
 IsRead found Demo = ⊤
 IsRead found Version = ⊤
 IsRead found (Help row) = given found (codes "COMMAND") kinds.Command ≡ option_map (λ r. r.now.name.now) row

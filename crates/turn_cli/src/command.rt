@@ -153,6 +153,8 @@ pub enum Command {
         asker: Asker,
         /// Whether it asks for a Binding alone.
         only_binding: bool,
+        /// Whether the reason of a fault is told.
+        log: bool,
     },
     /// Who has what in the store in a file.
     Status {
@@ -160,6 +162,8 @@ pub enum Command {
         config: String,
         /// The path of the store.
         store: String,
+        /// Whether the reason of a fault is told.
+        log: bool,
     },
     /// A server over sockets that shows what it does.
     Demo,

@@ -66,7 +66,7 @@ fn end_on<D: Disk + Drop, C: Clock>(
     match end_over(alloc, clock, config, &mut server, whose) {
         Ok(chosen) => Ok(chosen),
         Err(kind) => {
-            let (disk, _) = server.close();
+            let (disk, ..) = server.close();
             Err(Fault::of_disk(alloc, store, kind, &disk))
         }
     }

@@ -4,9 +4,8 @@ ghost use Rattle.std.specs.Prelude.{◌≡◌};
 ghost use Rattle.turn_disk.specs.Counts.{Rises};
 
 use crate::disk::DeviceError;
-use std::fmt;
-use std::io;
 use std::marker::Model;
+use std::{fmt, io};
 
 /// A kind of device call.
 #[derive(Clone, Copy, Debug, PartialEq, Eq)]

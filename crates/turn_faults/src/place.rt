@@ -55,7 +55,7 @@ const PATIENCE_OF_SERVER: u64 = 15;
 
 /// How many seconds a server waits for an export whose own server takes no further client: a server that ends may be one for a moment
 /// yet.
-const PATIENCE_WITH_CLIENT: Duration = Duration::from_secs(2);
+const PATIENCE_WITH_CLIENT: u64 = 2;
 
 /// How often it is tried again meanwhile, at most.
 const AGAIN: u32 = 40;
@@ -106,10 +106,10 @@ pub fn open_export<R: Net + AllocGlobal, C: Clock>(
     }
 }
 
-/// Whether so long has passed since a time, or the system doesn't say.
-fn has_passed<C: Clock>(clock: &C, began: Option<Duration>, limit: Duration) -> bool {
+/// Whether so many seconds have passed since a time, or the system doesn't say.
+fn have_passed<C: Clock>(clock: &C, began: Option<Duration>, seconds: u64) -> bool {
     match (began, clock.monotonic()) {
-        (Some(began), Ok(now)) => limit < now.saturating_sub(began),
+        (Some(began), Ok(now)) => Duration::from_secs(seconds) < now.saturating_sub(began),
         _ => true,
     }
 }
@@ -127,7 +127,7 @@ pub fn open_export_to_serve<R: Net + AllocGlobal, C: Clock>(
     for _ in 0..AGAIN {
         match NbdDisk::open(rt.alloc(), rt, clock, &named.export, PATIENCE_OF_SERVER) {
             Ok(disk) => return Ok(disk),
-            Err(NbdError::Closed) if !has_passed(clock, began, PATIENCE_WITH_CLIENT) => {}
+            Err(NbdError::Closed) if !have_passed(clock, began, PATIENCE_WITH_CLIENT) => {}
             Err(why) => return Err(refused(rt.alloc(), named, why)),
         }
         thread::sleep(clock, Duration::from_millis(PAUSE));

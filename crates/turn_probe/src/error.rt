@@ -6,7 +6,7 @@ ghost use Rattle.turn_probe.specs.declared.error.ProbeError.TheVariants as fault
 
 use thiserror::Error;
 use turn_client::ClientError;
-use turn_faults::{ProbeFault, ProbeReason, ProbeStep, ProgramError};
+use turn_faults::{Fault, ProbeFault, ProbeReason, ProbeStep, ProgramError};
 
 /// Why a probe ended.
 #[derive(Clone, Copy, Debug, PartialEq, Eq, Error)]
@@ -19,14 +19,14 @@ pub enum ProbeError {
     Step(ProbeFault),
 }
 
-impl From<ProbeError> for ProgramError {
-    ghost from_gives = { λ fault f. f ≡ of_probe fault };
+impl From<ProbeError> for Fault {
+    ghost from_gives = { λ fault f. f.kind ≡ of_probe fault };
 
-    fn from(fault: ProbeError) -> ProgramError {
-        match fault {
+    fn from(fault: ProbeError) -> Fault {
+        Fault::from(match fault {
             ProbeError::Memory => ProgramError::Memory,
             ProbeError::Step(fault) => ProgramError::Probe(fault),
-        }
+        })
     }
 }
 

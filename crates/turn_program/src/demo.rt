@@ -4,13 +4,12 @@ ghost use Rattle.std.specs.Prelude.{◌≡◌};
 ghost use Rattle.turn_program.specs.Faults.{of_client};
 
 use std::alloc::Global;
-use std::fs::File;
 use std::io::Write;
 use std::net::Net;
 use std::rt::{Clock, Files};
 use turn_client::{Allocated, ClientError, Conversation, Loopback, limits};
 use turn_disk::{CrashOutcome, Disk, MemoryDisk};
-use turn_faults::{ProgramError, print_line};
+use turn_faults::{Fault, Host, ProgramError, print_line};
 use turn_ports::PortRange;
 use turn_service::{fault_of_start, fault_of_turn};
 use turn_serving::Commits;
@@ -54,7 +53,7 @@ fn permit<D: Disk + Drop, R: Net + Files + Drop, C: Clock, W: Write>(
     talk: &mut Conversation<'_, D, R>,
     clock: &C,
     out: &mut W,
-) -> Result<(), ProgramError> {
+) -> Result<(), Fault> {
     talk.permit(clock).map_err(fault_of_client)?;
     print_line("permission ok", out)
 }
@@ -65,7 +64,7 @@ fn print_bytes<W: Write>(
     from_or_to: &str,
     bytes: &[u8],
     out: &mut W,
-) -> Result<(), ProgramError> {
+) -> Result<(), Fault> {
     let text = hex::encode(alloc, bytes)?;
     print_line(&format!(in alloc; "{from_or_to} peer {text}")?, out)
 }
@@ -77,7 +76,7 @@ fn send_both_ways<D: Disk + Drop, R: Net + Files + Drop, C: Clock, W: Write>(
     clock: &C,
     port: u16,
     out: &mut W,
-) -> Result<(), ProgramError> {
+) -> Result<(), Fault> {
     let bytes = talk.send(clock, port, b"hello").map_err(fault_of_client)?;
     print_bytes(alloc, "to", &bytes, out)?;
     let bytes = talk
@@ -93,7 +92,7 @@ fn repeat<D: Disk + Drop, R: Net + Files + Drop, C: Clock, W: Write>(
     clock: &C,
     allocated: &Allocated,
     out: &mut W,
-) -> Result<(), ProgramError> {
+) -> Result<(), Fault> {
     let is_same = talk.repeat(clock, allocated).map_err(fault_of_client)?;
     let word = if is_same { "same" } else { "differs" };
     print_line(&format!(in alloc; "repeat {word}")?, out)
@@ -105,7 +104,7 @@ fn delete<D: Disk + Drop, R: Net + Files + Drop, C: Clock, W: Write>(
     talk: &mut Conversation<'_, D, R>,
     clock: &C,
     out: &mut W,
-) -> Result<(), ProgramError> {
+) -> Result<(), Fault> {
     let granted = talk.refresh(clock, 0).map_err(fault_of_client)?;
     print_line(&format!(in alloc; "refresh {granted}")?, out)
 }
@@ -116,7 +115,7 @@ fn allocate<D: Disk + Drop, R: Net + Files + Drop, C: Clock, W: Write>(
     talk: &mut Conversation<'_, D, R>,
     clock: &C,
     out: &mut W,
-) -> Result<Allocated, ProgramError> {
+) -> Result<Allocated, Fault> {
     let code = talk.challenge(clock).map_err(fault_of_client)?;
     print_line(&format!(in alloc; "challenge {code}")?, out)?;
     let allocated = talk.allocate(clock).map_err(fault_of_client)?;
@@ -140,7 +139,7 @@ fn say_first<D: Disk + Drop, R: Net + Files + Drop, C: Clock, W: Write>(
     talk: &mut Conversation<'_, D, R>,
     clock: &C,
     out: &mut W,
-) -> Result<Allocated, ProgramError> {
+) -> Result<Allocated, Fault> {
     let allocated = allocate(alloc, talk, clock, out)?;
     permit(talk, clock, out)?;
     send_both_ways(alloc, talk, clock, allocated.port, out)?;
@@ -152,9 +151,9 @@ fn say_last<D: Disk + Drop, R: Net + Files + Drop, C: Clock, W: Write>(
     alloc: Global,
     talk: &mut Conversation<'_, D, R>,
     clock: &C,
-    first: Result<Allocated, ProgramError>,
+    first: Result<Allocated, Fault>,
     out: &mut W,
-) -> Result<(), ProgramError> {
+) -> Result<(), Fault> {
     let allocated = first?;
     print_line("restart", out)?;
     repeat(alloc, talk, clock, &allocated, out)?;
@@ -162,11 +161,7 @@ fn say_last<D: Disk + Drop, R: Net + Files + Drop, C: Clock, W: Write>(
 }
 
 /// Shows a server over sockets of the loopback and a disk in memory.
-pub fn run_demo<R: Files<File = File> + Net + Drop + AllocGlobal, C: Clock, W: Write>(
-    rt: &R,
-    clock: &C,
-    out: &mut W,
-) -> Result<(), ProgramError> {
+pub fn run_demo<R: Host, C: Clock, W: Write>(rt: &R, clock: &C, out: &mut W) -> Result<(), Fault> {
     let alloc = rt.alloc();
     let disk = make_disk(alloc)?;
     let mut talk = make_loopback(alloc, rt)?

@@ -1,10 +1,9 @@
 //! `turn help`.
 
-use crate::error::ProgramError;
-use crate::print::{print_line, print_lines};
 use std::alloc::{AllocError, Global};
 use std::io::Write;
 use turn_cli::{SYNOPSES, Synopsis, line_of};
+use turn_faults::{Fault, print_line, print_lines};
 
 fn lines_of(alloc: Global, synopses: &[Synopsis]) -> Result<Vec<String>, AllocError> {
     let mut lines = Vec::new(alloc);
@@ -19,7 +18,7 @@ pub fn run_help<W: Write>(
     alloc: Global,
     synopsis: Option<&Synopsis>,
     out: &mut W,
-) -> Result<(), ProgramError> {
+) -> Result<(), Fault> {
     match synopsis {
         Some(synopsis) => print_line(&line_of(alloc, synopsis)?, out),
         None => print_lines(alloc, &lines_of(alloc, &SYNOPSES)?, out),

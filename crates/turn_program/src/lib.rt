@@ -2,10 +2,8 @@
 #![tactic(auto)]
 
 mod demo;
-mod error;
 mod help;
 mod place;
-mod print;
 mod probe;
 mod program;
 mod streams;
@@ -14,5 +12,5 @@ mod version;
 pub use program::{report, run_words};
 pub use streams::{LogStream, fill_streams};
 pub use turn_commands::{format_disk, reply_to};
-pub use turn_faults::{ProgramError, read_scenario, read_whole};
+pub use turn_faults::{Fault, Host, Named, ProgramError, read_scenario, read_whole};
 pub use version::Release;

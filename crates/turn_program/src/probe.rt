@@ -3,33 +3,25 @@
 use std::alloc::Global;
 use std::io::Write;
 use std::net::Net;
-use std::rt::{Clock, Files};
+use std::rt::Clock;
 use turn_cli::Asker;
 use turn_client::ClientCredentials;
 use turn_commands::{Login, login_of, server_in};
-use turn_faults::{ProgramError, print_line};
+use turn_faults::{Fault, Host, ProgramError, print_line};
 use turn_probe::Talk;
 use turn_types::Endpoint;
 
 /// The address that is asked: the one that is given, or that of the configuration.
-fn server_of<R: Files + AllocGlobal>(
-    rt: &R,
-    server: Option<Endpoint>,
-    asker: &Asker,
-) -> Result<Endpoint, ProgramError> {
+fn server_of<R: Host>(rt: &R, server: Option<Endpoint>, asker: &Asker) -> Result<Endpoint, Fault> {
     match (server, asker) {
         (Some(server), _) => Ok(server),
         (None, Asker::Configured { config }) => server_in(rt, config),
-        (None, _) => Err(ProgramError::Usage),
+        (None, _) => Err(Fault::from(ProgramError::Usage)),
     }
 }
 
 /// Who asks, if anybody does.
-fn asking<R: Files + AllocGlobal, C: Clock>(
-    rt: &R,
-    clock: &C,
-    asker: &Asker,
-) -> Result<Option<Login>, ProgramError> {
+fn asking<R: Host, C: Clock>(rt: &R, clock: &C, asker: &Asker) -> Result<Option<Login>, Fault> {
     match asker {
         Asker::Nobody => Ok(None),
         Asker::User { name, password } => {
@@ -46,7 +38,7 @@ fn ask<R: Net, C: Clock, W: Write>(
     talk: &mut Talk<'_, R>,
     login: Option<&Login>,
     out: &mut W,
-) -> Result<(), ProgramError> {
+) -> Result<(), Fault> {
     let binding = talk.binding(clock)?;
     let Some(login) = login else {
         return print_line(&format!(in alloc; "binding {binding} ms")?, out);
@@ -67,14 +59,14 @@ fn ask<R: Net, C: Clock, W: Write>(
 
 /// Asks a server for a Binding, and unless that is all with a name and a password for an allocation, over which a datagram goes there and back. Prints a
 /// line with the milliseconds of each.
-pub fn run_probe<R: Files + Net + AllocGlobal, C: Clock, W: Write>(
+pub fn run_probe<R: Host, C: Clock, W: Write>(
     rt: &R,
     clock: &C,
     server: Option<Endpoint>,
     asker: &Asker,
     only_binding: bool,
     out: &mut W,
-) -> Result<(), ProgramError> {
+) -> Result<(), Fault> {
     let alloc = rt.alloc();
     let server = server_of(rt, server, asker)?;
     let login = if only_binding {

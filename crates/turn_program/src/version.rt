@@ -2,7 +2,7 @@
 
 use std::alloc::{AllocError, Global};
 use std::io::Write;
-use turn_faults::{ProgramError, print_lines};
+use turn_faults::{Fault, print_lines};
 
 /// What a program is made from.
 #[derive(Clone, Copy)]
@@ -33,6 +33,6 @@ pub fn run_version<W: Write>(
     alloc: Global,
     release: Release<'_>,
     out: &mut W,
-) -> Result<(), ProgramError> {
+) -> Result<(), Fault> {
     print_lines(alloc, &lines_of(alloc, release)?, out)
 }

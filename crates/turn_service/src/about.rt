@@ -1,84 +1,64 @@
 //! What a fault of a server's sockets is about.
 
-use std::alloc::{AllocGlobal, Global};
-use std::io::{self, Write};
-use std::net::{Net, UdpSocket};
-use std::rt::Clock;
+ghost use Rattle.std.specs.Prelude.{◌≡◌};
+
+use std::alloc::{AllocError, Global};
+use std::io;
 use turn_config::{ShownEndpoint, ShownIp};
-use turn_faults::{second_now, tell};
-use turn_log::Log;
+use turn_faults::{Fault, ProgramError};
 use turn_ports::{PortRange, RelayAddressGenerator};
-use turn_sockets::address_of;
-use turn_types::Endpoint;
+use turn_serving::{Needed, SocketFault};
 
-/// Where a server's sockets are bound.
-#[derive(Clone, Copy)]
-pub struct ShownAddresses<'a> {
-    /// The addresses that clients send to.
-    pub listen: &'a [Endpoint],
-    /// The IPv4 address on which relay sockets are bound.
-    pub relay: u32,
-    /// The range of the relay ports.
-    pub ports: PortRange,
-}
+/// What a log says of sockets that aren't at the server's addresses.
+const HELD: &str = "held: the sockets aren't those of the listening addresses";
 
-/// The first of these addresses that can't be bound beside those before it, and why.
-fn refused_of<R: Net>(
-    alloc: Global,
-    net: &R,
-    addresses: &[Endpoint],
-) -> Option<(Endpoint, io::Error)> {
-    let mut held = Vec::new(alloc);
-    for at in addresses {
-        match UdpSocket::bind(net, address_of(*at)) {
-            Ok(socket) => held.push(socket).ok()?,
-            Err(reason) => return Some((*at, reason)),
+/// What it says of the wait for all sockets.
+const WAIT: &str = "wait for sockets";
+
+/// Which socket is missing.
+fn text_of(alloc: Global, ports: PortRange, needed: Needed) -> Result<String, AllocError> {
+    match needed {
+        Needed::Listening(at) => format!(in alloc; "listen {}", ShownEndpoint(at)),
+        Needed::Relay(ip) => format!(in alloc; "relay {}", ShownIp(ip)),
+        Needed::RelayPort(port) => {
+            let (first, last) = ports.range();
+            format!(in alloc; "relay ports {first}-{last}: {port}")
         }
-    }
-    None
-}
-
-/// Says which address a socket can't be bound to, and why: the relay address, or a listening one, or else a relay port.
-pub fn tell_sockets<R: Net + AllocGlobal, C: Clock, L: Write + Drop>(
-    rt: &R,
-    clock: &C,
-    log: &Log<L>,
-    addresses: &ShownAddresses<'_>,
-) {
-    if !log.is_kept() {
-        return;
-    }
-    let ShownAddresses {
-        listen,
-        relay,
-        ports,
-    } = *addresses;
-    let any = Endpoint { ip: relay, port: 0 };
-    let (alloc, shown) = (rt.alloc(), ShownIp(relay));
-    if let Err(reason) = UdpSocket::bind(rt, address_of(any)) {
-        return tell(alloc, clock, log, "relay", &shown, Some(reason));
-    }
-    if let Some((at, reason)) = refused_of(alloc, rt, listen) {
-        return tell(
-            alloc,
-            clock,
-            log,
-            "listen",
-            &ShownEndpoint(at),
-            Some(reason),
-        );
-    }
-    let (first, last) = ports.range();
-    if let Ok(name) = format!(in alloc; "{first}-{last}") {
-        tell(alloc, clock, log, "relay ports", &name, None);
+        Needed::Held => format!(in alloc; "{HELD}"),
+        Needed::Wait => format!(in alloc; "{WAIT}"),
     }
 }
 
-/// What a log says where a supervisor doesn't hand over what is to be served.
-const NOT_HELD: &str =
-    "held: no UDP sockets are handed over, or not one for each listening address and for no other";
+/// A text with the system's reason, if it gave a number.
+fn with_reason(alloc: Global, text: String, number: Option<i32>) -> Result<String, AllocError> {
+    let Some(number) = number else {
+        return Ok(text);
+    };
+    let reason = io::Error::from_raw_os_error(number);
+    format!(in alloc; "{text}: {reason}")
+}
 
-/// Says that the sockets that are handed over are at fault.
-pub fn tell_held<C: Clock, L: Write + Drop>(clock: &C, log: &Log<L>) {
-    log.say(second_now(clock), NOT_HELD);
+fn line_of(alloc: Global, ports: PortRange, missing: SocketFault) -> Result<String, AllocError> {
+    let text = text_of(alloc, ports, missing.needed)?;
+    with_reason(alloc, text, missing.number)
+}
+
+/// That a socket is missing, and why. The relay ports are of this range.
+pub fn fault_of_sockets(alloc: Global, ports: PortRange, missing: SocketFault) -> Fault
+    ensures { result.kind ≡ ProgramError.Socket }
+{
+    Fault::saying(ProgramError::Socket, line_of(alloc, ports, missing))
+}
+
+/// That the wait for sockets failed, by the system's number, if it gave one.
+pub fn fault_of_wait(alloc: Global, number: Option<i32>) -> Fault
+    ensures { result.kind ≡ ProgramError.Socket }
+{
+    match number {
+        Some(number) => {
+            let reason = io::Error::from_raw_os_error(number);
+            Fault::of(alloc, ProgramError::Socket, &WAIT, &reason)
+        }
+        None => Fault::about(alloc, ProgramError::Socket, &WAIT),
+    }
 }

@@ -12,7 +12,7 @@ pub fn fault_of_start(fault: StartError) -> ProgramError
 {
     match fault {
         StartError::Store(fault) => ProgramError::from(fault),
-        StartError::Socket => ProgramError::Socket,
+        StartError::Socket(_) => ProgramError::Socket,
         StartError::Memory => ProgramError::Memory,
         StartError::Carry(fault) => ProgramError::from(fault),
     }
@@ -24,7 +24,7 @@ pub fn fault_of_turn(fault: TurnError) -> ProgramError
 {
     match fault {
         TurnError::Commit(fault) => ProgramError::from(fault),
-        TurnError::Socket => ProgramError::Socket,
+        TurnError::Socket(_) => ProgramError::Socket,
         TurnError::Clock => ProgramError::Device,
         TurnError::Memory => ProgramError::Memory,
     }

@@ -7,37 +7,35 @@ ghost use Rattle.turn_serving.specs.Starts.{KeepsImages};
 ghost use Rattle.turn_serving.specs.Turns.{Served};
 ghost use Rattle.turn_service.specs.Serving.{AnySecond, IsOpened, Serves, ServesOpened, StartedOver, commits_of, just_opened};
 
-use crate::about::{ShownAddresses, tell_held, tell_sockets};
+use crate::about::{fault_of_sockets, fault_of_wait};
 use crate::fault::{fault_of_start, fault_of_turn};
-use crate::held::sockets_of;
+use crate::held::{not_held, sockets_of};
 use crate::started::{Started, live_at, tell_notes, tell_started};
 use crate::watch::StoreWatch;
 use std::alloc::Global;
-use std::env::Env;
 use std::fs::File;
 use std::io::Write;
-use std::net::Net;
 use std::os::fd::RawFd;
 use std::random::RandomSource;
 use std::rt::{Clock, Files};
 use std::thread;
 use std::time::Duration;
-use turn_config::{Configured, ShownEndpoint, read_config};
+use turn_config::{Configured, ShownEndpoint};
 use turn_cred::{AuthHandler, Credentials};
 use turn_disk::{Disk, FileDisk, FileError, Start, Unknown};
 use turn_faults::{
-    NamedExport, Prepared, ProgramError, StorePlace, open_export_to_serve, prepare, print_line,
-    read_whole, second_now, tell_export, tell_prepared, tell_store,
+    Fault, Host, Named, NamedExport, Prepared, ProgramError, StorePlace, configure,
+    open_export_to_serve, prepare, print_line, read_whole, second_now,
 };
 use turn_lines::Known;
 use turn_log::Log;
 use turn_nbd::{NbdDisk, Socket, is_uri};
 use turn_notes::Noted;
-use turn_ports::RelayAddressGenerator;
+use turn_ports::{PortRange, RelayAddressGenerator};
 use turn_serving::{
     Commits, ListeningSockets, Setup, SetupError, SocketServing, StartError, TurnError,
 };
-use turn_sockets::SocketPorts;
+use turn_sockets::{SocketPorts, notify_ready};
 use turn_types::Endpoint;
 
 /// What the words of `turn serve` say.
@@ -61,6 +59,9 @@ pub struct Service<'a> {
     pub is_held: bool,
 }
 
+/// What a fault is about where the system gives no random bytes.
+const RANDOM: &str = "random bytes";
+
 /// Requests wait for each other unless turns are counted.
 fn commits_of(turns: Option<u64>) -> Commits
     ensures { result ≡ commits_of turns }
@@ -72,12 +73,14 @@ fn commits_of(turns: Option<u64>) -> Commits
 }
 
 /// Random bytes of the system.
-fn random_bytes<R: RandomSource>(rt: &R) -> Result<[u8; 32], ProgramError>
-    ensures { IfErr result (λ fault. fault ≡ ProgramError.Device) }
+fn random_bytes<R: Host>(rt: &R) -> Result<[u8; 32], Fault>
+    ensures { IfErr result (λ fault. fault.kind ≡ ProgramError.Device) }
 {
     let mut bytes = [0u8; 32];
-    rt.fill_bytes(&mut bytes).map_err(|_| ProgramError::Device)?;
-    Ok(bytes)
+    match rt.fill_bytes(&mut bytes) {
+        Ok(()) => Ok(bytes),
+        Err(reason) => Err(Fault::of(rt.alloc(), ProgramError::Device, &RANDOM, &reason)),
+    }
 }
 
 /// A server over the store on a disk, which a log watches.
@@ -101,18 +104,21 @@ fn open_disk<R: Files<File = File>, C: Clock>(
     rt: &R,
     clock: &C,
     store: &str,
-) -> Result<FileDisk<File>, ProgramError>
+) -> Result<FileDisk<File>, FileError>
     ensures { IfOk result (λ disk. disk ≡ just_opened disk.size) }
 {
     for _ in 0..AGAIN {
         match FileDisk::open(rt, store) {
             Ok(disk) => return Ok(disk),
             Err(FileError::InUse) => thread::sleep(clock, Duration::from_millis(PAUSE)),
-            Err(refused) => return Err(ProgramError::from(refused)),
+            Err(refused) => return Err(refused),
         }
     }
-    Ok(FileDisk::open(rt, store)?)
+    FileDisk::open(rt, store)
 }
+
+/// What a fault is about where the system tells no time.
+const CLOCK: &str = "clock: the system tells no time";
 
 /// What a start takes before its store.
 #[derive(Drop)]
@@ -125,24 +131,16 @@ struct Taken {
     awaited: Option<RawFd>,
 }
 
-/// Takes the configuration, and the sockets that are handed over. At a fault the log says what it is about.
-fn take_first<R: Files<File = File> + RandomSource + Env + AllocGlobal, C: Clock, L: Write + Drop>(
-    rt: &R,
-    clock: &C,
-    service: Service<'_>,
-    log: &Log<L>,
-) -> Result<Taken, ProgramError> {
+/// Takes the configuration, and the sockets that are handed over.
+fn take_first<R: Host, C: Clock>(rt: &R, clock: &C, service: Service<'_>) -> Result<Taken, Fault> {
     let began = clock.monotonic().ok();
     let seed = random_bytes(rt)?;
-    let prepared = prepare(rt, service.config, service.listen).inspect_err(|fault| tell_prepared(
-        rt,
-        clock,
-        log,
-        service.config,
-        *fault,
-    ))?;
+    let prepared = prepare(rt, service.config, service.listen)?;
     let listen = prepared.listen.as_slice();
-    let sockets = sockets_of(rt, service.is_held, listen).inspect_err(|_| tell_held(clock, log))?;
+    let sockets = sockets_of(rt, service.is_held, listen).map_err(|fault| not_held(
+        rt.alloc(),
+        fault,
+    ))?;
     Ok(Taken {
         began,
         seed,
@@ -152,72 +150,62 @@ fn take_first<R: Files<File = File> + RandomSource + Env + AllocGlobal, C: Clock
     })
 }
 
-/// Takes these and the store in a file. At a fault the log says what it is about.
-fn take_file<R: Files<File = File> + RandomSource + Env + AllocGlobal, C: Clock, L: Write + Drop>(
+/// Takes these and the store in a file.
+fn take_file<R: Host, C: Clock>(
     rt: &R,
     clock: &C,
     service: Service<'_>,
-    log: &Log<L>,
-) -> Result<(Taken, FileDisk<File>), ProgramError>
+) -> Result<(Taken, FileDisk<File>), Fault>
     ensures { IfOk result (λ taken. taken.1 ≡ just_opened taken.1.size) }
 {
-    let taken = take_first(rt, clock, service, log)?;
-    let disk = open_disk(rt, clock, service.store).inspect_err(|_| tell_store(
-        rt,
-        clock,
-        log,
-        service.store,
-    ))?;
-    Ok((taken, disk))
+    let taken = take_first(rt, clock, service)?;
+    match open_disk(rt, clock, service.store) {
+        Ok(disk) => Ok((taken, disk)),
+        Err(refused) => Err(Fault::of_file(rt.alloc(), Named::store(service.store), refused)),
+    }
 }
 
-/// Takes these and the store in an export. At a fault the log says what it is about.
-fn take_export<
-    R: Files<File = File> + Net + RandomSource + Env + AllocGlobal,
-    C: Clock,
-    L: Write + Drop,
->(
+/// Takes these and the store in an export.
+fn take_export<R: Host, C: Clock>(
     rt: &R,
     clock: &C,
     service: Service<'_>,
     named: NamedExport<'_>,
-    log: &Log<L>,
-) -> Result<(Taken, NbdDisk), ProgramError>
+) -> Result<(Taken, NbdDisk), Fault>
     ensures { IfOk result (λ taken. IsConnected taken.1) }
 {
-    let mut taken = take_first(rt, clock, service, log)?;
-    let disk = open_export_to_serve(rt, clock, log, named)?;
+    let mut taken = take_first(rt, clock, service)?;
+    let disk = open_export_to_serve(rt, clock, named)?;
     taken.awaited = Some(disk.descriptor());
     Ok((taken, disk))
 }
 
-/// Says which store is at fault, and why its file can't be opened if it can't.
-fn tell_place<R: Files<File = File> + AllocGlobal, C: Clock, L: Write + Drop>(
-    rt: &R,
-    clock: &C,
-    log: &Log<L>,
+/// The fault of a start over this disk.
+fn refused<D: Disk>(
+    alloc: Global,
     store: &str,
-) {
-    if is_uri(store) {
-        tell_export(rt.alloc(), clock, log, store, None);
-    } else {
-        tell_store(rt, clock, log, store);
+    ports: PortRange,
+    fault: StartError,
+    disk: &D,
+) -> Fault {
+    let kind = fault_of_start(fault);
+    match fault {
+        StartError::Store(_) | StartError::Carry(_) => {
+            Fault::of_disk(alloc, Named::store(store), kind, disk)
+        }
+        StartError::Socket(missing) => fault_of_sockets(alloc, ports, missing),
+        StartError::Memory => Fault::from(kind),
     }
 }
 
-/// Says what the fault of a start is about.
-fn tell_start<R: Files<File = File> + Net + AllocGlobal, C: Clock, L: Write + Drop>(
-    rt: &R,
-    clock: &C,
-    log: &Log<L>,
-    store: &str,
-    addresses: &ShownAddresses<'_>,
-    fault: StartError,
-) {
+/// The fault of a turn over this disk.
+fn fault_of<D: Disk>(alloc: Global, store: &str, fault: TurnError, disk: &D) -> Fault {
+    let kind = fault_of_turn(fault);
     match fault {
-        StartError::Store(_) | StartError::Carry(_) => { tell_place(rt, clock, log, store) }
-        StartError::Socket => tell_sockets(rt, clock, log, addresses),
-        StartError::Memory => {}
+        TurnError::Commit(_) => Fault::of_disk(alloc, Named::store(store), kind, disk),
+        TurnError::Socket(number) => fault_of_wait(alloc, number),
+        TurnError::Clock => Fault::about(alloc, kind, &CLOCK),
+        TurnError::Memory => Fault::from(kind),
     }
 }
 
@@ -231,21 +219,13 @@ fn since<C: Clock>(clock: &C, began: Option<Duration>) -> Option<Duration> {
 #[derive(Drop)]
 pub struct Ended<D: Disk + Drop> {
     /// The first fault, if there was one.
-    pub told: Result<(), ProgramError>,
+    pub told: Result<(), Fault>,
     /// The disk as it was left.
     pub disk: D,
 }
 
-/// Starts a server over a disk. At a fault the log says which store or address it is about.
-fn start<
-    'a,
-    'w,
-    'l,
-    D: Disk + Drop,
-    R: Files<File = File> + Net + RandomSource + Env + Drop + AllocGlobal,
-    C: Clock,
-    L: Write + Drop,
->(
+/// Starts a server over a disk.
+fn start<'a, 'w, 'l, D: Disk + Drop, R: Host, C: Clock, L: Write + Drop>(
     rt: &'a R,
     clock: &C,
     service: Service<'_>,
@@ -258,7 +238,6 @@ fn start<
     ensures kept { IfErr result (λ ended. KeepsImages D.Disk disk ended.disk) }
     ensures told { IfErr result (λ ended. IsErr ended.told) }
 {
-    let log = watch.log();
     let Taken {
         began: _,
         seed,
@@ -287,34 +266,22 @@ fn start<
     match setup.start(rt.alloc(), rt, clock, disk, credentials, sockets, watch) {
         Ok(serving) => Ok(serving),
         Err(SetupError { fault, disk }) => {
-            let addresses = ShownAddresses {
-                listen: listen.as_slice(),
-                relay: relay_bind.unwrap_or(config.relay()),
-                ports,
-            };
-            tell_start(rt, clock, log, service.store, &addresses, fault);
+            let fault = refused(rt.alloc(), service.store, ports, fault, &disk);
             Err(Ended {
-                told: Err(fault_of_start(fault)),
+                told: Err(fault),
                 disk,
             })
         }
     }
 }
 
-/// Takes turns. At a fault of the store the log says which one it is.
-fn take_turns<
-    'a,
-    D: Disk + Drop,
-    R: Files<File = File> + Net + Drop + AllocGlobal,
-    C: Clock,
-    L: Write + Drop,
->(
+/// Takes turns.
+fn take_turns<'a, D: Disk + Drop, R: Host, C: Clock, L: Write + Drop>(
     rt: &R,
     serving: &mut DiskServing<'a, '_, '_, D, R, L>,
     clock: &C,
     service: Service<'_>,
-    log: &Log<L>,
-) -> Result<(), ProgramError>
+) -> Result<(), Fault>
     ensures { Served D.Disk ⟦<Credentials as AuthHandler>⟧ ⟦<SocketPorts<'a, R, Global> as RelayAddressGenerator>⟧
         (IsMoment AnySecond) serving.old.server serving.new.server }
 {
@@ -322,10 +289,8 @@ fn take_turns<
     match serving.turns(&clock, service.turns.unwrap_or(u64::MAX)) {
         Ok(()) => Ok(()),
         Err(fault) => {
-            if let TurnError::Commit(_) = fault {
-                tell_place(rt, clock, log, service.store);
-            }
-            Err(fault_of_turn(fault))
+            let disk = serving.server().disk();
+            Err(fault_of(rt.alloc(), service.store, fault, disk))
         }
     }
 }
@@ -335,7 +300,7 @@ fn print_addresses<W: Write>(
     alloc: Global,
     addresses: &[Endpoint],
     out: &mut W,
-) -> Result<(), ProgramError> {
+) -> Result<(), Fault> {
     for address in addresses {
         let shown = ShownEndpoint(*address);
         print_line(&format!(in alloc; "listening {shown}")?, out)?;
@@ -344,26 +309,18 @@ fn print_addresses<W: Write>(
 }
 
 /// Says where the server listens, takes the turns, and says how many there were.
-fn tell<
-    'a,
-    D: Disk + Drop,
-    R: Files<File = File> + Net + Drop + AllocGlobal,
-    C: Clock,
-    W: Write,
-    L: Write + Drop,
->(
+fn tell<'a, D: Disk + Drop, R: Host, C: Clock, W: Write, L: Write + Drop>(
     rt: &R,
     serving: &mut DiskServing<'a, '_, '_, D, R, L>,
     clock: &C,
     service: Service<'_>,
-    log: &Log<L>,
     out: &mut W,
-) -> Result<(), ProgramError>
+) -> Result<(), Fault>
     ensures { Served D.Disk ⟦<Credentials as AuthHandler>⟧ ⟦<SocketPorts<'a, R, Global> as RelayAddressGenerator>⟧
         (IsMoment AnySecond) serving.old.server serving.new.server }
 {
     print_addresses(rt.alloc(), serving.locals().as_slice(), out)?;
-    take_turns(rt, serving, clock, service, log)?;
+    take_turns(rt, serving, clock, service)?;
     match service.turns {
         Some(turns) => print_line(&format!(in rt.alloc(); "served {turns} turns")?, out),
         None => Ok(()),
@@ -371,22 +328,22 @@ fn tell<
 }
 
 /// Lets a log know the server: its configuration, which is read once more, and its ports. Without that its lines say less.
-fn inform<R: Files<File = File> + AllocGlobal, L: Write + Drop>(
+fn inform<R: Host, L: Write + Drop>(
     rt: &R,
     service: Service<'_>,
     watch: &StoreWatch<'_, R, L>,
     started: &Started<'_>,
     second: u64,
-) -> Result<(), ProgramError> {
+) -> Result<(), Fault> {
     if !watch.log().is_kept() {
         return Ok(());
     }
-    let text = read_whole(rt, rt.alloc(), service.config)?;
+    let text = read_whole(rt, Named::config(service.config))?;
     let Configured {
         config,
         credentials,
         ..
-    } = read_config(rt.alloc(), &text)?;
+    } = configure(rt.alloc(), service.config, &text)?;
     let known = Known {
         config,
         credentials,
@@ -397,13 +354,7 @@ fn inform<R: Files<File = File> + AllocGlobal, L: Write + Drop>(
 }
 
 /// Says what was started. At a file the log looks from then on whether its path still leads to it.
-fn tell_begun<
-    'a,
-    D: Disk + Drop,
-    R: Files<File = File> + Net + Drop + AllocGlobal,
-    C: Clock,
-    L: Write + Drop,
->(
+fn tell_begun<'a, D: Disk + Drop, R: Host, C: Clock, L: Write + Drop>(
     rt: &R,
     clock: &C,
     service: Service<'_>,
@@ -435,14 +386,7 @@ fn tell_begun<
 }
 
 /// Serves over a disk for so many turns, or until the process is ended. The disk is returned as it was left.
-fn serve_over<
-    'a,
-    D: Disk + Drop,
-    R: Files<File = File> + Net + RandomSource + Env + Drop + AllocGlobal,
-    C: Clock,
-    W: Write,
-    L: Write + Drop,
->(
+fn serve_over<'a, D: Disk + Drop, R: Host, C: Clock, W: Write, L: Write + Drop>(
     rt: &'a R,
     clock: &C,
     service: Service<'_>,
@@ -461,31 +405,25 @@ fn serve_over<
         Err(ended) => return ended,
     };
     tell_begun(rt, clock, service, &watch, &serving, began);
-    let told = tell(rt, &mut serving, clock, service, log, out);
+    notify_ready(rt);
+    let told = tell(rt, &mut serving, clock, service, out);
     let (disk, _) = serving.close();
     Ended { told, disk }
 }
 
 /// Serves over the store in a file, for so many turns, or until the process is ended. `S` stands for the state in
 /// which the store's file was found, whatever that is. An error is one before the file was opened; from then on the disk is returned.
-pub fn run_serve<
-    'a,
-    S: Start,
-    R: Files<File = File> + Net + RandomSource + Env + Drop + AllocGlobal,
-    C: Clock,
-    W: Write,
-    L: Write + Drop,
->(
+pub fn run_serve<'a, S: Start, R: Host, C: Clock, W: Write, L: Write + Drop>(
     rt: &'a R,
     clock: &C,
     service: Service<'_>,
     log: &Log<L>,
     out: &mut W,
-) -> Result<Ended<FileDisk<File, S>>, ProgramError>
+) -> Result<Ended<FileDisk<File, S>>, Fault>
     ensures { IfOk result (λ ended. ServesOpened ⟦<FileDisk<File, S> as Disk>⟧ ⟦<Credentials as AuthHandler>⟧
         ⟦<SocketPorts<'a, R, Global> as RelayAddressGenerator>⟧ IsOpened ended.disk) }
 {
-    match take_file(rt, clock, service, log) {
+    match take_file(rt, clock, service) {
         Ok((taken, disk)) => {
             let disk = disk.holding::<S>();
             Ok(serve_over(rt, clock, service, taken, disk, log, out))
@@ -495,25 +433,18 @@ pub fn run_serve<
 }
 
 /// Serves over the store in an export, as `run_serve` over one in a file. `S` stands for the state in which the export was found.
-pub fn serve_export<
-    'a,
-    S: Start,
-    R: Files<File = File> + Net + RandomSource + Env + Drop + AllocGlobal,
-    C: Clock,
-    W: Write,
-    L: Write + Drop,
->(
+pub fn serve_export<'a, S: Start, R: Host, C: Clock, W: Write, L: Write + Drop>(
     rt: &'a R,
     clock: &C,
     service: Service<'_>,
     named: NamedExport<'_>,
     log: &Log<L>,
     out: &mut W,
-) -> Result<Ended<NbdDisk<Socket, S>>, ProgramError>
+) -> Result<Ended<NbdDisk<Socket, S>>, Fault>
     ensures { IfOk result (λ ended. ServesOpened ⟦<NbdDisk<Socket, S> as Disk>⟧ ⟦<Credentials as AuthHandler>⟧
         ⟦<SocketPorts<'a, R, Global> as RelayAddressGenerator>⟧ IsConnected ended.disk) }
 {
-    match take_export(rt, clock, service, named, log) {
+    match take_export(rt, clock, service, named) {
         Ok((taken, disk)) => {
             let disk = disk.holding::<S>();
             Ok(serve_over(rt, clock, service, taken, disk, log, out))
@@ -523,7 +454,7 @@ pub fn serve_export<
 }
 
 /// The first fault of a service, if there was one.
-fn told_of<D: Disk + Drop>(ended: Result<Ended<D>, ProgramError>) -> Result<(), ProgramError>
+fn told_of<D: Disk + Drop>(ended: Result<Ended<D>, Fault>) -> Result<(), Fault>
     ensures told { IfOk ended (λ ended. result ≡ ended.told) }
     ensures refused { IfErr ended (λ fault. result ≡ Err fault) }
 {
@@ -534,12 +465,13 @@ fn told_of<D: Disk + Drop>(ended: Result<Ended<D>, ProgramError>) -> Result<(), 
 }
 
 /// Serves over a store in a file or in an export, for so many turns, or until the process is ended.
-pub fn run_service<
-    R: Files<File = File> + Net + RandomSource + Env + Drop + AllocGlobal,
-    C: Clock,
-    W: Write,
-    L: Write + Drop,
->(rt: &R, clock: &C, service: Service<'_>, log: &Log<L>, out: &mut W) -> Result<(), ProgramError> {
+pub fn run_service<R: Host, C: Clock, W: Write, L: Write + Drop>(
+    rt: &R,
+    clock: &C,
+    service: Service<'_>,
+    log: &Log<L>,
+    out: &mut W,
+) -> Result<(), Fault> {
     match StorePlace::of(service.store)? {
         StorePlace::File(_) => {
             told_of(run_serve::<Unknown, R, C, W, L>(rt, clock, service, log, out))

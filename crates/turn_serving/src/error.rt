@@ -7,8 +7,7 @@ ghost use Rattle.turn_serving.specs.declared.error.SocketFault.{SocketFault};
 ghost use Rattle.turn_serving.specs.declared.error.TurnError.TheVariants as turns;
 
 use std::alloc::{AllocError, AllocFailed};
-use std::fmt;
-use std::io;
+use std::{fmt, io};
 use thiserror::Error;
 use turn_disk::Disk;
 use turn_engine::CommitError;

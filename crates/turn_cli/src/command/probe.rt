@@ -77,5 +77,6 @@ pub fn probe_of(alloc: Global, found: &Found<'_, '_>) -> Result<Command, CliErro
         server: server_of(found.text("IP:PORT", Kind::Endpoint), config)?,
         asker: asker_of(alloc, user, password, config)?,
         only_binding: found.flag("binding"),
+        log: found.flag("log"),
     })
 }

@@ -17,6 +17,7 @@ pub fn status_of(alloc: Global, found: &Found<'_, '_>) -> Result<Command, CliErr
 {
     Ok(Command::Status {
         config: found.owned(alloc, "config", Kind::File)?,
+        log: found.flag("log"),
         store: found.owned(alloc, "store", Kind::Store)?,
     })
 }

@@ -149,6 +149,7 @@ pub static SYNOPSES: [Synopsis; 13] = [
         parts: &[
             Part::Required(Word::Named("config", Kind::File)),
             Part::Required(Word::Named("store", Kind::Store)),
+            Part::Optional(Word::Flag("log")),
         ],
     },
     Synopsis {
@@ -174,6 +175,7 @@ pub static SYNOPSES: [Synopsis; 13] = [
                 Word::Named("config", Kind::File),
             ),
             Part::Optional(Word::Flag("binding")),
+            Part::Optional(Word::Flag("log")),
             Part::Optional(Word::Value(Kind::Endpoint)),
         ],
     },

@@ -1,3 +1,0 @@
-//! Why a command ended without its answer.
-
-pub use turn_faults::ProgramError;

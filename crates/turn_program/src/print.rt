@@ -1,3 +1,0 @@
-//! What is printed on standard output.
-
-pub use turn_faults::{print_line, print_lines};
