@@ -42,7 +42,7 @@ pub enum NbdError {
 
 impl NbdError {
     /// What is said of it, without the system's or the server's reason.
-    fn words(self) -> &'static str {
+    pub fn words(self) -> &'static str {
         match self {
             NbdError::Refused(_) => "no server accepts a connection",
             NbdError::Handshake => "the server's handshake is malformed",

@@ -70,7 +70,7 @@ fn use_export<M: Meanwhile>(server: Script<'_>, other: &mut M) -> Result<(u8, u6
 }
 
 /// The same with a server of these bytes, and how many bytes it is sent.
-fn served(answers: &[u8], at_once: usize) -> (Result<(u8, u64), NbdError>, usize, [u8; KEPT]) {
+fn served(answers: &[u8], at_once: usize) -> (Result<(u8, u64), &'static str>, usize, [u8; KEPT]) {
     let sent = Cell::new([0; KEPT]);
     let count = Cell::new(0);
     let server = Script {
@@ -82,7 +82,8 @@ fn served(answers: &[u8], at_once: usize) -> (Result<(u8, u64), NbdError>, usize
         asked: 0,
         pauses: &Cell::new(0),
     };
-    (use_export(server, &mut Idle), count.get(), sent.get())
+    let outcome = use_export(server, &mut Idle).map_err(|why| why.words());
+    (outcome, count.get(), sent.get())
 }
 
 #[test]
@@ -102,7 +103,7 @@ fn a_stream_that_ends_fails_each_later_call(rt: HostRuntime) {
         let all = answers();
         let (outcome, count, _) = served(&all[..size], 7);
         let expected = match size {
-            0..70 => Err(NbdError::Closed),
+            0..70 => Err(NbdError::Closed.words()),
             70..86 => Ok((0, 3)),
             86..102 => Ok((1, 2)),
             _ => Ok((3, 1)),
@@ -120,7 +121,7 @@ fn a_stream_that_ends_fails_each_later_call(rt: HostRuntime) {
 }
 
 // One byte of the server's is another.
-fn changed<R: Abort>(rt: &R, at: usize, byte: u8) -> Result<(u8, u64), NbdError> {
+fn changed<R: Abort>(rt: &R, at: usize, byte: u8) -> Result<(u8, u64), &'static str> {
     let mut bytes = answers();
     assert!(rt; at < bytes.len());
     bytes[at] = byte;
@@ -147,7 +148,10 @@ fn each_fault_of_a_handshake_has_its_name(rt: HostRuntime) {
         (65, 3, NbdError::Handshake),
         (66, 1, NbdError::Handshake),
     ] {
-        assert!(rt; changed(&rt, at, byte) == Err(expected), "{at} {byte}");
+        assert!(rt;
+            changed(&rt, at, byte) == Err(expected.words()),
+            "{at} {byte}"
+        );
     }
 }
 
@@ -167,7 +171,7 @@ const BY_NAME: [u8; 48] = *b"NBDMAGICIHAVEOPT\0\x03\
 \0\x03\xe8\x89\x04\x55\x65\xa9\0\0\0\x07\x80\0\0\x01\0\0\0\0\
 \0\0\0\0\0\0\x01\0\0\x03";
 
-fn size_to_read(answers: &[u8]) -> Result<usize, NbdError> {
+fn size_to_read(answers: &[u8]) -> Result<usize, &'static str> {
     let sent = Cell::new([0; KEPT]);
     let count = Cell::new(0);
     let server = Script {
@@ -179,18 +183,19 @@ fn size_to_read(answers: &[u8]) -> Result<usize, NbdError> {
         asked: 0,
         pauses: &Cell::new(0),
     };
-    Ok(NbdDisk::over(server, "", false)?.size())
+    let disk = NbdDisk::over(server, "", false).map_err(|why| why.words())?;
+    Ok(disk.size())
 }
 
 #[test]
 fn an_export_by_name_follows_an_unknown_go(rt: HostRuntime) {
     assert!(rt; size_to_read(&BY_NAME) == Ok(256));
-    assert!(rt; size_to_read(&BY_NAME[..38]) == Err(NbdError::NoExport));
+    assert!(rt; size_to_read(&BY_NAME[..38]) == Err(NbdError::NoExport.words()));
     let mut with_zeros = [0; 48 + 124];
     with_zeros[..48].copy_from_slice(&BY_NAME);
     with_zeros[17] = 1;
     assert!(rt; size_to_read(&with_zeros) == Ok(256));
-    assert!(rt; size_to_read(&with_zeros[..171]) == Err(NbdError::Closed));
+    assert!(rt; size_to_read(&with_zeros[..171]) == Err(NbdError::Closed.words()));
 }
 
 #[test]
@@ -285,7 +290,7 @@ fn another_is_done_before_a_reply_is_there(rt: HostRuntime) {
             asked: 0,
             pauses: &pauses,
         };
-        let outcome = use_export(server, &mut other);
+        let outcome = use_export(server, &mut other).map_err(|why| why.words());
         assert!(rt; outcome == Ok((7, 0)), "{delay}");
         assert!(rt; other.pieces == pieces, "{delay}");
         assert!(rt; pauses.get() == paused, "{delay}");
@@ -311,7 +316,8 @@ fn a_reply_that_never_comes_fails_its_request(rt: HostRuntime) {
         asked: 0,
         pauses: &Cell::new(0),
     };
-    assert!(rt; use_export(server, &mut other) == Ok((0, 3)));
+    let outcome = use_export(server, &mut other).map_err(|why| why.words());
+    assert!(rt; outcome == Ok((0, 3)));
     assert!(rt; other.pieces == BOUND);
     assert!(rt; count.get() == 58);
 }

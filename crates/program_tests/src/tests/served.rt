@@ -92,7 +92,7 @@ const ENDS: Row = Row {
     readings: 7,
     full: None,
     answers: 70,
-    log: "",
+    log: "0 - clock: the system tells no time\n",
     status: 3,
     out: "listening 127.0.0.1:63160\n",
     err: "turn: device\n",
@@ -102,6 +102,7 @@ const COUNTED: Row = Row {
     count: 3,
     readings: u32::MAX,
     status: 0,
+    log: "",
     err: "",
     ..ENDS
 };
@@ -113,19 +114,19 @@ const UP_TO_A_FAULT: [Row; 6] = [
     Row { ..ENDS },
     Row {
         datagram: PLAIN,
-        log: "1001 - 69 x 401 from 127.0.0.1\n",
+        log: "1001 - 69 x 401 from 127.0.0.1\n0 - clock: the system tells no time\n",
         ..ENDS
     },
     Row {
         datagram: SIGNED,
-        log: "1001 - 70 x 400 from 127.0.0.1\n",
+        log: "1001 - 70 x 400 from 127.0.0.1\n0 - clock: the system tells no time\n",
         ..ENDS
     },
     Row {
         datagram: ALLOCATE,
         readings: 134,
         answers: 64,
-        log: "1001 - 63 x repeated allocate from 127.0.0.1\n1001 - dropped 6 requests: too many wait for the disk\n",
+        log: "1001 - 63 x repeated allocate from 127.0.0.1\n1001 - dropped 6 requests: too many wait for the disk\n0 - clock: the system tells no time\n",
         ..ENDS
     },
     Row {
@@ -142,7 +143,7 @@ const UP_TO_A_FAULT: [Row; 6] = [
         tick: 101,
         readings: 8,
         answers: 1,
-        log: "1000 - commit took 101 ms\n",
+        log: "1000 - commit took 101 ms\n0 - clock: the system tells no time\n",
         ..ENDS
     },
 ];
