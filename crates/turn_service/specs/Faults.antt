@@ -6,6 +6,8 @@ use Rattle.turn_serving.specs.declared.error.StartError.{StartError}
 use Rattle.turn_serving.specs.declared.error.StartError.TheVariants as start_faults
 use Rattle.turn_serving.specs.declared.error.TurnError.{TurnError}
 use Rattle.turn_serving.specs.declared.error.TurnError.TheVariants as turn_faults
+use Rattle.turn_sockets.specs.declared.held.HeldFault.{HeldFault}
+use Rattle.turn_sockets.specs.declared.held.HeldFault.TheVariants as held_faults
 
 -- the fault of a server's start
 abbrev pub of_start : StartError → ProgramError
@@ -20,3 +22,13 @@ of_turn (turn_faults.Commit fault) = of_store fault
 of_turn turn_faults.Socket = Socket
 of_turn turn_faults.Clock = Device
 of_turn turn_faults.Memory = Memory
+
+-- the fault of sockets that are handed over
+abbrev pub of_held : HeldFault → ProgramError
+of_held held_faults.NotHanded = Socket
+of_held held_faults.TooMany = Socket
+of_held (held_faults.NotUdp descriptor) = Socket
+of_held (held_faults.Connected descriptor) = Socket
+of_held (held_faults.Missing address) = Socket
+of_held (held_faults.Elsewhere address) = Socket
+of_held held_faults.Memory = Memory

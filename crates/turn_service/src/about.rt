@@ -5,7 +5,7 @@ use std::io::{self, Write};
 use std::net::{Net, UdpSocket};
 use std::rt::Clock;
 use turn_config::{ShownEndpoint, ShownIp};
-use turn_faults::{second_now, tell};
+use turn_faults::tell;
 use turn_log::Log;
 use turn_ports::{PortRange, RelayAddressGenerator};
 use turn_sockets::address_of;
@@ -72,13 +72,4 @@ pub fn tell_sockets<R: Net + AllocGlobal, C: Clock, L: Write + Drop>(
     if let Ok(name) = format!(in alloc; "{first}-{last}") {
         tell(alloc, clock, log, "relay ports", &name, None);
     }
-}
-
-/// What a log says where a supervisor doesn't hand over what is to be served.
-const NOT_HELD: &str =
-    "held: no UDP sockets are handed over, or not one for each listening address and for no other";
-
-/// Says that the sockets that are handed over are at fault.
-pub fn tell_held<C: Clock, L: Write + Drop>(clock: &C, log: &Log<L>) {
-    log.say(second_now(clock), NOT_HELD);
 }

@@ -7,9 +7,9 @@ ghost use Rattle.turn_serving.specs.Starts.{KeepsImages};
 ghost use Rattle.turn_serving.specs.Turns.{Served};
 ghost use Rattle.turn_service.specs.Serving.{AnySecond, IsOpened, Serves, ServesOpened, StartedOver, commits_of, just_opened};
 
-use crate::about::{ShownAddresses, tell_held, tell_sockets};
+use crate::about::{ShownAddresses, tell_sockets};
 use crate::fault::{fault_of_start, fault_of_turn};
-use crate::held::sockets_of;
+use crate::held::{fault_of_held, sockets_of, tell_held};
 use crate::started::{Started, live_at, tell_notes, tell_started};
 use crate::watch::StoreWatch;
 use std::alloc::Global;
@@ -37,7 +37,7 @@ use turn_ports::RelayAddressGenerator;
 use turn_serving::{
     Commits, ListeningSockets, Setup, SetupError, SocketServing, StartError, TurnError,
 };
-use turn_sockets::SocketPorts;
+use turn_sockets::{SocketPorts, notify_ready};
 use turn_types::Endpoint;
 
 /// What the words of `turn serve` say.
@@ -142,7 +142,10 @@ fn take_first<R: Files<File = File> + RandomSource + Env + AllocGlobal, C: Clock
         *fault,
     ))?;
     let listen = prepared.listen.as_slice();
-    let sockets = sockets_of(rt, service.is_held, listen).inspect_err(|_| tell_held(clock, log))?;
+    let sockets = sockets_of(rt, service.is_held, listen).map_err(|fault| {
+        tell_held(rt.alloc(), clock, log, fault);
+        fault_of_held(fault)
+    })?;
     Ok(Taken {
         began,
         seed,
@@ -461,6 +464,7 @@ fn serve_over<
         Err(ended) => return ended,
     };
     tell_begun(rt, clock, service, &watch, &serving, began);
+    notify_ready(rt);
     let told = tell(rt, &mut serving, clock, service, log, out);
     let (disk, _) = serving.close();
     Ended { told, disk }
