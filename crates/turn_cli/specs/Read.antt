@@ -35,12 +35,15 @@ IsEnded (Some user) client (Client address) = ⊥
 IsEnded None None (Client address) = ⊥
 IsEnded None (Some client) (Client address) = IsEndpoint client address
 
--- the words that say who asks, and no other
-abbrev pub IsAsker : Option Text → Option Text → Option Text → Asker → Type 0
-IsAsker user password config asker.Nobody = (user ≡ None) × (password ≡ None) × (config ≡ None)
-IsAsker user password config (asker.User name secret) =
-    (user ≡ Some (string_bytes name)) × (password ≡ Some (string_bytes secret)) × (config ≡ None)
-IsAsker user password config (asker.Configured path) = (user ≡ None) × (password ≡ None) × (config ≡ Some (string_bytes path))
+-- the words that say who asks, and no other: a name with a password or with the path of its file, or a configuration
+abbrev pub IsAsker : Option Text → Option Text → Option Text → Option Text → Asker → Type 0
+IsAsker user password file config asker.Nobody = (user ≡ None) × (password ≡ None) × (file ≡ None) × (config ≡ None)
+IsAsker user password file config (asker.User name secret) =
+    (user ≡ Some (string_bytes name)) × (password ≡ Some (string_bytes secret)) × (file ≡ None) × (config ≡ None)
+IsAsker user password file config (asker.UserByFile name path) =
+    (user ≡ Some (string_bytes name)) × (password ≡ None) × (file ≡ Some (string_bytes path)) × (config ≡ None)
+IsAsker user password file config (asker.Configured path) =
+    (user ≡ None) × (password ≡ None) × (file ≡ None) × (config ≡ Some (string_bytes path))
 
 -- the address that is asked, or a configuration where there is none
 abbrev pub IsServer : Option Text → Option Text → Option Endpoint → Type 0
@@ -92,7 +95,8 @@ IsRead found (End config store ended log) =
     × IsText (given found (codes "config") kinds.File) config × IsText (given found (codes "store") kinds.Store) store
 IsRead found (Probe server who only log) =
     IsServer (given found (codes "IP:PORT") kinds.Endpoint) (given found (codes "config") kinds.File) server
-    × IsAsker (given found (codes "user") kinds.Name) (given found (codes "password") kinds.Password) (given found (codes "config") kinds.File) who
+    × IsAsker (given found (codes "user") kinds.Name) (given found (codes "password") kinds.Password)
+    (given found (codes "password-file") kinds.File) (given found (codes "config") kinds.File) who
     × IsFlag found (codes "binding") only × IsFlag found (codes "log") log
 IsRead found (Status config store log) =
     IsFlag found (codes "log") log × IsText (given found (codes "config") kinds.File) config × IsText (given found (codes "store") kinds.Store) store

@@ -1,5 +1,5 @@
 -- The table of commands: what `clap` is told, what a command reads, and the lines that show it.
-use Rattle.std.specs.Prelude.{ℕ, Bool, true, false, ◌&&◌, ◌≡◌, find, not, is_some, codes, ◌==◌, map, option_map, flat_map, bytes_eq, List, [], ◌∷◌, ◌++◌, Option, Some, None, if◌then◌else◌}
+use Rattle.std.specs.Prelude.{ℕ, Bool, true, false, ◌&&◌, ◌||◌, ◌≡◌, find, not, is_some, codes, ◌==◌, map, option_map, flat_map, bytes_eq, List, [], ◌∷◌, ◌++◌, Option, Some, None, if◌then◌else◌}
 use Rattle.std.specs.List.{list_all, list_any}
 use Rattle.clap.specs.Matches.{first_value, found_of, matched_of, one_text, raw_values, subcommand_name_of}
 use Rattle.clap.specs.Walk.{Rule, Text, rows_of}
@@ -14,7 +14,7 @@ use Rattle.turn_cli.specs.declared.command.table.Kind.TheVariants.{File, Store, 
 use Rattle.turn_cli.specs.declared.command.table.Word.{Word}
 use Rattle.turn_cli.specs.declared.command.table.Word.TheVariants.{Flag, Named, Value}
 use Rattle.turn_cli.specs.declared.command.table.Part.{Part}
-use Rattle.turn_cli.specs.declared.command.table.Part.TheVariants.{Required, Optional, Many, Either, BothOr}
+use Rattle.turn_cli.specs.declared.command.table.Part.TheVariants.{Required, Optional, Many, Either, WithEither}
 use Rattle.turn_cli.specs.declared.command.table.Synopsis.{Synopsis}
 
 -- ---- the line that shows a command
@@ -42,14 +42,18 @@ shown_word (Flag name) = codes "--" ++ name.now
 shown_word (Named name kind) = codes "--" ++ name.now ++ codes " " ++ shown_kind kind
 shown_word (Value kind) = shown_kind kind
 
+-- two words that stand together
+abbrev pub shown_both : Word → Word → Text
+shown_both one other = shown_word one ++ codes " " ++ shown_word other
+
 -- square brackets are round what may be left out, dots after what may stand several times, and a line between alternatives
 abbrev pub shown_part : Part → Text
 shown_part (Required word) = codes " " ++ shown_word word
 shown_part (Optional word) = codes " [" ++ shown_word word ++ codes "]"
 shown_part (Many word) = codes " [" ++ shown_word word ++ codes "]..."
 shown_part (Either one other) = codes " " ++ shown_word one ++ codes " | " ++ shown_word other
-shown_part (BothOr first second other) =
-    codes " [" ++ shown_word first ++ codes " " ++ shown_word second ++ codes " | " ++ shown_word other ++ codes "]"
+shown_part (WithEither first one other last) =
+    codes " [" ++ shown_both first one ++ codes " | " ++ shown_both first other ++ codes " | " ++ shown_word last ++ codes "]"
 
 -- how the command is called
 abbrev pub line_of : Synopsis → Text
@@ -69,7 +73,8 @@ rules_of_part (Required word) = record (rule_of_word word) { required = true } �
 rules_of_part (Optional word) = rule_of_word word ∷ []
 rules_of_part (Many word) = record (rule_of_word word) { action = Some Append } ∷ []
 rules_of_part (Either one other) = rule_of_word one ∷ rule_of_word other ∷ []
-rules_of_part (BothOr first second other) = rule_of_word first ∷ rule_of_word second ∷ rule_of_word other ∷ []
+rules_of_part (WithEither first one other last) =
+    rule_of_word first ∷ rule_of_word one ∷ rule_of_word other ∷ rule_of_word last ∷ []
 
 -- what `clap` reads of a command when it takes words apart
 unfoldable pub told : clap.Command → App
@@ -139,7 +144,7 @@ words_of (Required word) = word ∷ []
 words_of (Optional word) = word ∷ []
 words_of (Many word) = word ∷ []
 words_of (Either one other) = one ∷ other ∷ []
-words_of (BothOr first second other) = first ∷ second ∷ other ∷ []
+words_of (WithEither first one other last) = first ∷ one ∷ other ∷ last ∷ []
 
 -- whether a word of the part has this name and this kind of value
 abbrev pub has_word : Text → Kind → Part → Bool
@@ -157,7 +162,7 @@ has_flag name (Optional (Named own kind)) = false
 has_flag name (Optional (Value kind)) = false
 has_flag name (Many word) = false
 has_flag name (Either one other) = false
-has_flag name (BothOr first second other) = false
+has_flag name (WithEither first one other last) = false
 
 -- the text that a word was given: none if the row has no such word
 unfoldable pub given : Found → Text → Kind → Option Text
@@ -192,14 +197,16 @@ abbrev pub differ : Bool → Bool → Bool
 differ true other = not other
 differ false other = other
 
--- a word that has to stand does; of two alternatives one does; of a pair both do or none, and with it not its alternative
+-- a word that has to stand does; of two alternatives one does; a word stands with one of two others, and these not without it, and then
+-- what may stand in place of both doesn't
 abbrev pub is_met_part : Found → Part → Bool
 is_met_part found (Required word) = is_given found word
 is_met_part found (Optional word) = true
 is_met_part found (Many word) = true
 is_met_part found (Either one other) = differ (is_given found one) (is_given found other)
-is_met_part found (BothOr first second other) =
-    not (differ (is_given found first) (is_given found second)) && not (is_given found first && is_given found other)
+is_met_part found (WithEither first one other last) =
+    not (differ (is_given found first) (is_given found one || is_given found other))
+    && (not (is_given found one && is_given found other) && not (is_given found first && is_given found last))
 
 -- each part of the row is met
 abbrev pub is_met : Found → Bool

@@ -7,6 +7,7 @@ use crate::socket::TimedSocket;
 use std::alloc::{Allocator, Global};
 use std::marker::Model;
 use std::net::Net;
+use std::time::Duration;
 use turn_codec::{AttributeType, Builder, Message};
 use turn_mac::generate_auth_key;
 use turn_requests::{
@@ -141,6 +142,13 @@ impl<'c, A: Allocator + Copy> Client<'c, A> {
     {
         let data = channel_data(number, payload).ok_or(ClientError::TooLong)?;
         self.send(&data.write(self.alloc)?)
+    }
+
+    /// How long it waits for each datagram from now on, which isn't 0.
+    pub fn set_wait(&self, wait: Duration) -> Result<(), ClientError>
+        ensures { IfErr result (λ fault. fault ≡ ClientError.Socket) }
+    {
+        self.socket.set_wait(wait)
     }
 
     /// The next datagram of the server.

@@ -16,7 +16,7 @@ const MAX_DATAGRAM: usize = 65_536;
 /// How long a read waits for a datagram.
 const WAIT_MILLIS: u64 = 500;
 
-/// A UDP socket whose reads wait for half a second at most.
+/// A UDP socket whose reads wait for half a second at most, or for as long as it is told.
 #[derive(Drop)]
 pub struct TimedSocket<A: Allocator = Global> {
     socket: UdpSocket,
@@ -55,6 +55,15 @@ impl<A: Allocator> TimedSocket<A> {
     /// The address of the socket, with the port that the system chose if it was to choose one.
     pub fn local(&self) -> Endpoint {
         self.local
+    }
+
+    /// How long each read waits from now on, which isn't 0.
+    pub fn set_wait(&self, wait: Duration) -> Result<(), ClientError>
+        ensures { IfErr result (λ fault. fault ≡ ClientError.Socket) }
+    {
+        self.socket
+            .set_read_timeout(Some(wait))
+            .map_err(|_| ClientError::Socket)
     }
 
     /// Sends one datagram. `Socket` where the system doesn't take it.

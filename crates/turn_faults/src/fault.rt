@@ -36,6 +36,14 @@ impl<'a> Named<'a> {
         }
     }
 
+    /// The password in a file.
+    pub fn password(word: &'a str) -> Named<'a> {
+        Named {
+            what: "password",
+            word,
+        }
+    }
+
     /// The store in a file or an export.
     pub fn store(word: &'a str) -> Named<'a> {
         Named {

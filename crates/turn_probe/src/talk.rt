@@ -4,19 +4,19 @@ ghost use Rattle.std.specs.Prelude.{◌≤◌, ◌≡◌, ◌⊎◌, ◌↔◌, 
 ghost use Rattle.turn_faults.specs.declared.probe.ProbeStep.TheVariants as steps;
 ghost use Rattle.turn_probe.specs.Faults.{IsAfterBinding, IsAt};
 
+use crate::deadline::Deadline;
 use crate::error::{ProbeError, failed, failed_by};
 use std::alloc::Global;
 use std::net::Net;
 use std::rt::Clock;
-use std::time::Duration;
 use turn_client::{Client, ClientCredentials, ClientError, TimedSocket};
 use turn_codec::{AttributeType, Message, read_xor_address};
 use turn_faults::{ProbeReason, ProbeStep};
 use turn_requests::{Attribute, ServerMessage, read_message};
 use turn_types::{Addr, Endpoint, Method, PeerAddress};
 
-/// How often a Binding is sent, each half a second: a server that is started opens its store first.
-const FIRST_ATTEMPTS: u32 = 40;
+/// How often a Binding is sent, each half a second.
+const FIRST_ATTEMPTS: u32 = 20;
 
 /// How often any other datagram is sent.
 const ATTEMPTS: u32 = 6;
@@ -50,25 +50,15 @@ fn address_in(message: &Message<'_>, kind: AttributeType) -> Option<Endpoint> {
     }
 }
 
-/// The milliseconds since a time.
-fn millis_since<C: Clock>(clock: &C, began: Duration) -> u64 {
-    match clock.monotonic() {
-        Ok(now) => u64::try_from(now.saturating_sub(began).as_millis()).unwrap_or(u64::MAX),
-        Err(_) => 0,
-    }
-}
-
-fn now<C: Clock>(clock: &C) -> Duration {
-    clock.monotonic().unwrap_or(Duration::ZERO)
-}
-
 /// The next answer to a request, if one comes in time.
-fn answer_to(
+fn answer_to<C: Clock>(
     alloc: Global,
+    deadline: &Deadline<'_, C>,
     client: &mut Client<'_>,
     request: &[u8],
 ) -> Result<Option<Vec<u8>>, ClientError> {
     for _ in 0..OTHERS {
+        client.set_wait(deadline.wait()?)?;
         match client.receive() {
             Ok(bytes) if answers(bytes, request) => return Ok(Some(Vec::from_slice(alloc, bytes)?)),
             Ok(_) | Err(ClientError::Unexpected) => {}
@@ -80,15 +70,16 @@ fn answer_to(
 }
 
 /// Sends a request until it is answered, so often at most.
-fn exchange(
+fn exchange<C: Clock>(
     alloc: Global,
+    deadline: &Deadline<'_, C>,
     client: &mut Client<'_>,
     request: &[u8],
     attempts: u32,
 ) -> Result<Vec<u8>, ClientError> {
     for _ in 0..attempts {
         client.send(request)?;
-        if let Some(answer) = answer_to(alloc, client, request)? {
+        if let Some(answer) = answer_to(alloc, deadline, client, request)? {
             return Ok(answer);
         }
     }
@@ -96,13 +87,15 @@ fn exchange(
 }
 
 /// Sends the peer's Binding until the server says from which address it came.
-fn mapped_address(
+fn mapped_address<C: Clock>(
+    deadline: &Deadline<'_, C>,
     peer: &mut TimedSocket,
     server: Endpoint,
     request: &[u8],
 ) -> Result<Endpoint, ClientError> {
     for _ in 0..ATTEMPTS {
         peer.send(server, request)?;
+        peer.set_wait(deadline.wait()?)?;
         match peer.receive() {
             Ok((bytes, from)) if from == server && answers(bytes, request) => {
                 let message = Message::parse(bytes).map_err(|_| ClientError::Unexpected)?;
@@ -118,13 +111,15 @@ fn mapped_address(
 }
 
 /// Sends data to a peer until it comes there.
-fn send_there(
+fn send_there<C: Clock>(
+    deadline: &Deadline<'_, C>,
     client: &Client<'_>,
     peer: &mut TimedSocket,
     mapped: Endpoint,
 ) -> Result<(), ClientError> {
     for _ in 0..ATTEMPTS {
         client.send_to_peer(mapped, THERE)?;
+        peer.set_wait(deadline.wait()?)?;
         match peer.receive() {
             Ok((bytes, _)) if bytes == THERE => return Ok(()),
             Ok(_) | Err(ClientError::Silent) => {}
@@ -144,13 +139,15 @@ fn is_back(bytes: &[u8]) -> bool {
 }
 
 /// Sends data of the peer to the relayed address until it comes to the client.
-fn send_back(
+fn send_back<C: Clock>(
+    deadline: &Deadline<'_, C>,
     client: &mut Client<'_>,
     peer: &TimedSocket,
     relayed: Endpoint,
 ) -> Result<(), ClientError> {
     for _ in 0..ATTEMPTS {
         peer.send(relayed, BACK)?;
+        client.set_wait(deadline.wait()?)?;
         match client.receive() {
             Ok(bytes) if is_back(bytes) => return Ok(()),
             Ok(_) | Err(ClientError::Silent | ClientError::Unexpected) => {}
@@ -162,8 +159,9 @@ fn send_back(
 
 /// A probe of a server: its peer, and what it learned.
 #[derive(Drop)]
-pub struct Talk<'n, R: Net> {
+pub struct Talk<'n, R: Net, C: Clock> {
     alloc: Global,
+    deadline: Deadline<'n, C>,
     net: &'n R,
     server: Endpoint,
     peer: TimedSocket,
@@ -171,14 +169,20 @@ pub struct Talk<'n, R: Net> {
     mapped: Endpoint,
 }
 
-impl<'n, R: Net> Talk<'n, R> {
-    /// Opens a peer, with which a server is asked.
-    pub fn open(alloc: Global, net: &'n R, server: Endpoint) -> Result<Talk<'n, R>, ProbeError>
+impl<'n, R: Net, C: Clock> Talk<'n, R, C> {
+    /// Opens a peer, with which a server is asked. The probe ends ten seconds from now, whatever its server does.
+    pub fn open(
+        alloc: Global,
+        clock: &'n C,
+        net: &'n R,
+        server: Endpoint,
+    ) -> Result<Talk<'n, R, C>, ProbeError>
         ensures { IfErr result (IsAt steps.Binding) }
     {
         let step = ProbeStep::Binding;
         Ok(Talk {
             alloc,
+            deadline: Deadline::new(clock),
             net,
             server,
             peer: TimedSocket::open(alloc, net, ANY).map_err(|error| failed_by(step, error))?,
@@ -190,6 +194,11 @@ impl<'n, R: Net> Talk<'n, R> {
         Client::open(self.alloc, self.net, ANY, self.server, credentials)
     }
 
+    // The milliseconds since a time of the deadline's clock.
+    fn millis_since(&self, began: u64) -> u64 {
+        self.deadline.now().saturating_sub(began)
+    }
+
     fn learn_mapped_address(&mut self) -> Result<(), ClientError> {
         let nobody = ClientCredentials {
             user: &[],
@@ -198,19 +207,25 @@ impl<'n, R: Net> Talk<'n, R> {
         };
         let mut client = self.client(nobody)?;
         let request = client.plain_request(Method::BINDING)?;
-        exchange(self.alloc, &mut client, &request, FIRST_ATTEMPTS)?;
-        self.mapped = mapped_address(&mut self.peer, self.server, &request)?;
+        exchange(
+            self.alloc,
+            &self.deadline,
+            &mut client,
+            &request,
+            FIRST_ATTEMPTS,
+        )?;
+        self.mapped = mapped_address(&self.deadline, &mut self.peer, self.server, &request)?;
         Ok(())
     }
 
     /// A Binding: the milliseconds until it is answered.
-    pub fn binding<C: Clock>(&mut self, clock: &C) -> Result<u64, ProbeError>
+    pub fn binding(&mut self) -> Result<u64, ProbeError>
         ensures { IfErr result (IsAt steps.Binding) }
     {
-        let began = now(clock);
+        let began = self.deadline.now();
         self.learn_mapped_address()
             .map_err(|error| failed_by(ProbeStep::Binding, error))?;
-        Ok(millis_since(clock, began))
+        Ok(self.millis_since(began))
     }
 
     // The realm of the server, which an Allocate without credentials is answered with.
@@ -222,7 +237,7 @@ impl<'n, R: Net> Talk<'n, R> {
         };
         let mut client = self.client(nobody)?;
         let request = client.plain_request(Method::ALLOCATE)?;
-        let answer = exchange(self.alloc, &mut client, &request, ATTEMPTS)?;
+        let answer = exchange(self.alloc, &self.deadline, &mut client, &request, ATTEMPTS)?;
         let message = Message::parse(&answer).map_err(|_| ClientError::Unexpected)?;
         let realm = message
             .find(AttributeType::REALM)
@@ -235,6 +250,7 @@ impl<'n, R: Net> Talk<'n, R> {
         let request = client.plain_request(Method::ALLOCATE)?;
         for _ in 0..ATTEMPTS {
             client.send(&request)?;
+            client.set_wait(self.deadline.wait()?)?;
             match client.take_challenge() {
                 Ok(_) => return Ok(()),
                 Err(ClientError::Silent) => {}
@@ -257,9 +273,9 @@ impl<'n, R: Net> Talk<'n, R> {
         let request = client
             .request(method, attributes)
             .map_err(|error| failed_by(step, error))?;
-        let answer = exchange(self.alloc, client, &request, ATTEMPTS).map_err(|error| failed_by(
-            step, error,
-        ))?;
+        let answer = exchange(self.alloc, &self.deadline, client, &request, ATTEMPTS).map_err(
+            |error| failed_by(step, error),
+        )?;
         let Ok(message) = Message::parse(&answer) else {
             return Err(failed(step, ProbeReason::Unexpected));
         };
@@ -286,15 +302,14 @@ impl<'n, R: Net> Talk<'n, R> {
     }
 
     // A permission for the peer, and a datagram there and back: the milliseconds of both.
-    fn send_both_ways<C: Clock>(
+    fn send_both_ways(
         &mut self,
-        clock: &C,
         client: &mut Client<'_>,
         relayed: Endpoint,
     ) -> Result<(u64, u64), ProbeError>
         ensures { IfErr result (λ fault. IsAt steps.Permission fault ⊎ IsAt steps.Data fault) }
     {
-        let began = now(clock);
+        let began = self.deadline.now();
         let peer = [Attribute::Peer(self.mapped)];
         self.request(
             client,
@@ -302,27 +317,26 @@ impl<'n, R: Net> Talk<'n, R> {
             Method::CREATE_PERMISSION,
             &peer,
         )?;
-        let permission = millis_since(clock, began);
-        let began = now(clock);
-        send_there(client, &mut self.peer, self.mapped).map_err(|error| failed_by(
+        let permission = self.millis_since(began);
+        let began = self.deadline.now();
+        send_there(&self.deadline, client, &mut self.peer, self.mapped).map_err(|error| failed_by(
             ProbeStep::Data,
             error,
         ))?;
-        send_back(client, &self.peer, relayed).map_err(|error| failed_by(ProbeStep::Data, error))?;
-        Ok((permission, millis_since(clock, began)))
+        send_back(&self.deadline, client, &self.peer, relayed).map_err(|error| failed_by(
+            ProbeStep::Data,
+            error,
+        ))?;
+        Ok((permission, self.millis_since(began)))
     }
 
     /// An allocation, over which a datagram goes there and back, and which is ended: the milliseconds of the Allocate, the permission, the
     /// data and the Refresh.
-    pub fn relay<C: Clock>(
-        &mut self,
-        clock: &C,
-        credentials: ClientCredentials<'_>,
-    ) -> Result<[u64; 4], ProbeError>
+    pub fn relay(&mut self, credentials: ClientCredentials<'_>) -> Result<[u64; 4], ProbeError>
         // The fault is of a step after the Binding.
         ensures { IfErr result IsAfterBinding }
     {
-        let began = now(clock);
+        let began = self.deadline.now();
         let realm = self
             .realm()
             .map_err(|error| failed_by(ProbeStep::Allocate, error))?;
@@ -336,14 +350,14 @@ impl<'n, R: Net> Talk<'n, R> {
             .client(credentials)
             .map_err(|error| failed_by(ProbeStep::Allocate, error))?;
         let relayed = self.allocate(&mut client)?;
-        let allocate = millis_since(clock, began);
-        let sent = self.send_both_ways(clock, &mut client, relayed);
+        let allocate = self.millis_since(began);
+        let sent = self.send_both_ways(&mut client, relayed);
         // The allocation is ended in any case.
-        let began = now(clock);
+        let began = self.deadline.now();
         let end = [Attribute::Lifetime(0)];
         let ended = self.request(&mut client, ProbeStep::Refresh, Method::REFRESH, &end);
         let (permission, data) = sent?;
         ended?;
-        Ok([allocate, permission, data, millis_since(clock, began)])
+        Ok([allocate, permission, data, self.millis_since(began)])
     }
 }

@@ -10,7 +10,7 @@ mod streams;
 mod version;
 
 pub use program::{report, run_words};
-pub use streams::{LogStream, fill_streams};
+pub use streams::{LineStream, LogStream, fill_streams, is_server};
 pub use turn_commands::{format_disk, reply_to};
 pub use turn_faults::{Fault, Host, Named, ProgramError, read_scenario, read_whole};
 pub use version::Release;

@@ -1,5 +1,7 @@
 //! `turn probe`: asks a server as a client would.
 
+ghost use Rattle.std.specs.Prelude.{◌≡◌, ◌≢◌, ◌⊎◌, All, length, slice_index_or, take};
+
 use std::alloc::Global;
 use std::io::Write;
 use std::net::Net;
@@ -7,7 +9,7 @@ use std::rt::Clock;
 use turn_cli::Asker;
 use turn_client::ClientCredentials;
 use turn_commands::{Login, login_of, server_in};
-use turn_faults::{Fault, Host, ProgramError, print_line};
+use turn_faults::{Fault, Host, Named, ProgramError, print_line, read_scenario};
 use turn_probe::Talk;
 use turn_types::Endpoint;
 
@@ -20,12 +22,29 @@ fn server_of<R: Host>(rt: &R, server: Option<Endpoint>, asker: &Asker) -> Result
     }
 }
 
-/// Who asks, if anybody does.
+/// The bytes before the first newline, or all.
+fn first_line(text: &[u8]) -> &[u8]
+    ensures line { All (λ byte. byte ≢ 10) result.now }
+    ensures first { result.now ≡ take (length result.now) text.now }
+    ensures end { (length result.now ≡ length text.now) ⊎ (slice_index_or text.now (length result.now) 0 ≡ 10) }
+{
+    match text.iter().position(|byte| *byte == b'\n') {
+        Some(end) => &text[..end],
+        None => text,
+    }
+}
+
+/// Who asks, if anybody does. The file of a password is a regular one or standard input, as that of a scenario.
 fn asking<R: Host, C: Clock>(rt: &R, clock: &C, asker: &Asker) -> Result<Option<Login>, Fault> {
     match asker {
         Asker::Nobody => Ok(None),
         Asker::User { name, password } => {
             let login = Login::new(rt.alloc(), name.as_bytes(), password.as_bytes())?;
+            Ok(Some(login))
+        }
+        Asker::UserByFile { name, file } => {
+            let text = read_scenario(rt, Named::password(file))?;
+            let login = Login::new(rt.alloc(), name.as_bytes(), first_line(&text))?;
             Ok(Some(login))
         }
         Asker::Configured { config } => Ok(Some(login_of(rt, clock, config)?)),
@@ -34,12 +53,11 @@ fn asking<R: Host, C: Clock>(rt: &R, clock: &C, asker: &Asker) -> Result<Option<
 
 fn ask<R: Net, C: Clock, W: Write>(
     alloc: Global,
-    clock: &C,
-    talk: &mut Talk<'_, R>,
+    talk: &mut Talk<'_, R, C>,
     login: Option<&Login>,
     out: &mut W,
 ) -> Result<(), Fault> {
-    let binding = talk.binding(clock)?;
+    let binding = talk.binding()?;
     let Some(login) = login else {
         return print_line(&format!(in alloc; "binding {binding} ms")?, out);
     };
@@ -48,7 +66,7 @@ fn ask<R: Net, C: Clock, W: Write>(
         realm: &[],
         password: login.password.as_slice(),
     };
-    let [allocate, permission, data, refresh] = talk.relay(clock, credentials)?;
+    let [allocate, permission, data, refresh] = talk.relay(credentials)?;
     print_line(
         &format!(in alloc;
             "binding {binding} ms, allocate {allocate} ms, permission {permission} ms, data {data} ms, refresh {refresh} ms"
@@ -74,6 +92,6 @@ pub fn run_probe<R: Host, C: Clock, W: Write>(
     } else {
         asking(rt, clock, asker)?
     };
-    let mut talk = Talk::open(alloc, rt, server)?;
-    ask(alloc, clock, &mut talk, login.as_ref(), out)
+    let mut talk = Talk::open(alloc, clock, rt, server)?;
+    ask(alloc, &mut talk, login.as_ref(), out)
 }

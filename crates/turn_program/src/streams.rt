@@ -3,6 +3,7 @@
 use libc::net::{MSG_NOSIGNAL, POLLERR, POLLHUP, POLLNVAL, POLLOUT, poll, send};
 use libc::types::pollfd;
 use libc::write;
+use std::convert::AsStr;
 use std::fs::{self, File, FileType, Files, OpenOptions};
 use std::io::{self, ErrorKind, Write};
 use std::os::fd::{AsRawFd, IntoRawFd, RawFd};
@@ -44,14 +45,14 @@ fn open_anew<R: Files<File = File>>(files: &R) -> Option<File> {
     options.open(files, STANDARD_ERROR_PATH).ok()
 }
 
-/// Whether a descriptor takes some bytes now, without a wait, and somebody reads them.
-fn takes_bytes(descriptor: RawFd) -> bool {
+/// Whether a descriptor takes some bytes within so many milliseconds, and somebody reads them.
+fn takes_bytes(descriptor: RawFd, millis: i32) -> bool {
     let mut asked = [pollfd {
         fd: descriptor,
         events: POLLOUT,
         revents: 0,
     }];
-    poll(&mut asked, 0) > 0
+    poll(&mut asked, millis) > 0
         && asked[0].revents & (POLLOUT | POLLERR | POLLHUP | POLLNVAL) == POLLOUT
 }
 
@@ -88,7 +89,7 @@ impl LogStream {
 impl Write for LogStream {
     fn write(&mut self, buf: &[u8]) -> io::Result<usize> {
         let descriptor = self.descriptor();
-        if !takes_bytes(descriptor) {
+        if !takes_bytes(descriptor, 0) {
             return Err(io::Error::from(ErrorKind::WouldBlock));
         }
         let count = if self.is_socket {
@@ -104,5 +105,57 @@ impl Write for LogStream {
 
     fn flush(&mut self) -> io::Result<()> {
         Ok(())
+    }
+}
+
+/// How long a write of a server's own lines waits for who reads them, in milliseconds.
+const PATIENCE: i32 = 1_000;
+
+/// How many bytes a pipe takes at once, without a wait, where it takes any (`PIPE_BUF`).
+const AT_ONCE: usize = 4_096;
+
+/// Whether words, the program's name first, call a server.
+pub fn is_server<S: AsStr>(words: &[S]) -> bool {
+    match words.get(1) {
+        Some(word) => word.as_str() == "serve",
+        None => false,
+    }
+}
+
+/// Standard output or standard error. That of a server isn't waited for without end: where its reader takes nothing for a second, a
+/// write fails, and so does each one after it.
+#[derive(Drop)]
+pub struct LineStream<W: Write + Drop> {
+    inner: W,
+    // None where it is waited for without end.
+    descriptor: Option<RawFd>,
+    is_stuck: bool,
+}
+
+impl<W: Write + Drop> LineStream<W> {
+    /// A writer over that of standard output (1) or standard error (2).
+    pub fn new(inner: W, descriptor: RawFd, is_server: bool) -> LineStream<W> {
+        LineStream {
+            inner,
+            descriptor: if is_server { Some(descriptor) } else { None },
+            is_stuck: false,
+        }
+    }
+}
+
+impl<W: Write + Drop> Write for LineStream<W> {
+    fn write(&mut self, buf: &[u8]) -> io::Result<usize> {
+        let Some(descriptor) = self.descriptor else {
+            return self.inner.write(buf);
+        };
+        if self.is_stuck || !takes_bytes(descriptor, PATIENCE) {
+            self.is_stuck = true;
+            return Err(io::Error::from(ErrorKind::WouldBlock));
+        }
+        self.inner.write(buf.get(..AT_ONCE).unwrap_or(buf))
+    }
+
+    fn flush(&mut self) -> io::Result<()> {
+        self.inner.flush()
     }
 }

@@ -10,7 +10,9 @@ use sources::{SOURCES, TOOLCHAIN};
 use std::io::ErrorKind;
 use std::process::ExitCode;
 use std::{env, io};
-use turn_program::{LogStream, ProgramError, Release, fill_streams, report, run_words};
+use turn_program::{
+    LineStream, LogStream, ProgramError, Release, fill_streams, is_server, report, run_words,
+};
 
 /// What `turn version` says.
 const RELEASE: Release<'static> = Release {
@@ -33,9 +35,14 @@ fn words_of(rt: &HostRuntime) -> Result<Vec<String>, ProgramError>
 fn main(rt: HostRuntime) -> ExitCode {
     // Before anything else is opened.
     fill_streams(&rt);
-    let mut out = io::writer(&rt);
-    let mut err = rt.stderr();
-    let status = match words_of(&rt) {
+    let words = words_of(&rt);
+    let is_server = match &words {
+        Ok(words) => is_server(words.as_slice()),
+        Err(_) => false,
+    };
+    let mut out = LineStream::new(io::writer(&rt), 1, is_server);
+    let mut err = LineStream::new(rt.stderr(), 2, is_server);
+    let status = match words {
         Ok(words) => {
             run_words(
                 &rt,

@@ -46,8 +46,11 @@ fn has_word(part: &Part, name: &str, kind: Kind) -> bool
     match part {
         Part::Required(word) | Part::Optional(word) | Part::Many(word) => is_word(word, name, kind),
         Part::Either(one, other) => is_word(one, name, kind) || is_word(other, name, kind),
-        Part::BothOr(first, second, other) => {
-            is_word(first, name, kind) || is_word(second, name, kind) || is_word(other, name, kind)
+        Part::WithEither(first, one, other, last) => {
+            is_word(first, name, kind)
+                || is_word(one, name, kind)
+                || is_word(other, name, kind)
+                || is_word(last, name, kind)
         }
     }
 }
@@ -144,9 +147,15 @@ impl<'a> Found<'a, '_> {
             Part::Required(word) => self.stands(word),
             Part::Optional(_) | Part::Many(_) => true,
             Part::Either(one, other) => self.stands(one) != self.stands(other),
-            Part::BothOr(first, second, other) => {
-                let is_first = self.stands(first);
-                is_first == self.stands(second) && !(is_first && self.stands(other))
+            Part::WithEither(first, one, other, last) => {
+                let (is_first, is_one, is_other) = (
+                    self.stands(first),
+                    self.stands(one),
+                    self.stands(other),
+                );
+                is_first == (is_one || is_other)
+                    && !(is_one && is_other)
+                    && !(is_first && self.stands(last))
             }
         }
     }

@@ -1,7 +1,7 @@
 //! The line that shows how a command is called.
 
 ghost use Rattle.std.specs.Prelude.{◌≡◌, ◌++◌, IfOk, OnOk, string_bytes};
-ghost use Rattle.turn_cli.specs.Table.{line_of, shown_part, shown_word};
+ghost use Rattle.turn_cli.specs.Table.{line_of, shown_both, shown_part, shown_word};
 
 use super::table::{Part, Synopsis, Word};
 use super::words::shown_kind;
@@ -23,6 +23,14 @@ fn push_word(line: &mut String, word: &Word) -> Result<(), AllocError>
         }
         Word::Value(kind) => line.push_str(shown_kind(*kind)),
     }
+}
+
+fn push_both(line: &mut String, one: &Word, other: &Word) -> Result<(), AllocError>
+    ensures { OnOk result (string_bytes line.new ≡ string_bytes line.old ++ shown_both one.now other.now) }
+{
+    push_word(line, one)?;
+    line.push_str(" ")?;
+    push_word(line, other)
 }
 
 fn push_part(line: &mut String, part: &Part) -> Result<(), AllocError>
@@ -49,13 +57,13 @@ fn push_part(line: &mut String, part: &Part) -> Result<(), AllocError>
             line.push_str(" | ")?;
             push_word(line, other)
         }
-        Part::BothOr(first, second, other) => {
+        Part::WithEither(first, one, other, last) => {
             line.push_str(" [")?;
-            push_word(line, first)?;
-            line.push_str(" ")?;
-            push_word(line, second)?;
+            push_both(line, first, one)?;
             line.push_str(" | ")?;
-            push_word(line, other)?;
+            push_both(line, first, other)?;
+            line.push_str(" | ")?;
+            push_word(line, last)?;
             line.push_str("]")
         }
     }

@@ -25,6 +25,13 @@ pub enum Asker {
         /// The password.
         password: String,
     },
+    /// A user, whose password a file has.
+    UserByFile {
+        /// The name.
+        name: String,
+        /// The path of the file.
+        file: String,
+    },
     /// A user of a configuration.
     Configured {
         /// The path of the configuration.
@@ -32,22 +39,28 @@ pub enum Asker {
     },
 }
 
-/// Who asks: a name and a password, or a configuration, or nobody. `Usage` where one of them is missing, or both are there.
+/// Who asks: a name and a password or its file, or a configuration, or nobody. `Usage` where one of them is missing, or several are
+/// there.
 fn asker_of(
     alloc: Global,
     user: Option<&str>,
     password: Option<&str>,
+    file: Option<&str>,
     config: Option<&str>,
 ) -> Result<Asker, CliError>
-    ensures { IfOk result (λ asker. IsAsker (option_copied user.entry) (option_copied password.entry) (option_copied config.entry) asker) }
+    ensures { IfOk result (λ asker. IsAsker (option_copied user.entry) (option_copied password.entry) (option_copied file.entry) (option_copied config.entry) asker) }
 {
-    match (user, password, config) {
-        (None, None, None) => Ok(Asker::Nobody),
-        (Some(name), Some(password), None) => Ok(Asker::User {
+    match (user, password, file, config) {
+        (None, None, None, None) => Ok(Asker::Nobody),
+        (Some(name), Some(password), None, None) => Ok(Asker::User {
             name: String::from_str(alloc, name)?,
             password: String::from_str(alloc, password)?,
         }),
-        (None, None, Some(config)) => Ok(Asker::Configured {
+        (Some(name), None, Some(file), None) => Ok(Asker::UserByFile {
+            name: String::from_str(alloc, name)?,
+            file: String::from_str(alloc, file)?,
+        }),
+        (None, None, None, Some(config)) => Ok(Asker::Configured {
             config: String::from_str(alloc, config)?,
         }),
         _ => Err(CliError::Usage),
@@ -72,10 +85,11 @@ pub fn probe_of(alloc: Global, found: &Found<'_, '_>) -> Result<Command, CliErro
 {
     let user = found.text("user", Kind::Name);
     let password = found.text("password", Kind::Password);
+    let file = found.text("password-file", Kind::File);
     let config = found.text("config", Kind::File);
     Ok(Command::Probe {
         server: server_of(found.text("IP:PORT", Kind::Endpoint), config)?,
-        asker: asker_of(alloc, user, password, config)?,
+        asker: asker_of(alloc, user, password, file, config)?,
         only_binding: found.flag("binding"),
         log: found.flag("log"),
     })

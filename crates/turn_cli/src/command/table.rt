@@ -54,8 +54,8 @@ pub enum Part {
     Many(Word),
     /// Either the one word or the other.
     Either(Word, Word),
-    /// The first two words, or the last one, or none.
-    BothOr(Word, Word, Word),
+    /// The first word with one of the next two, or the last one, or none.
+    WithEither(Word, Word, Word, Word),
 }
 
 /// Which command a line calls.
@@ -169,9 +169,10 @@ pub static SYNOPSES: [Synopsis; 13] = [
         name: "probe",
         subcommand: Subcommand::Probe,
         parts: &[
-            Part::BothOr(
+            Part::WithEither(
                 Word::Named("user", Kind::Name),
                 Word::Named("password", Kind::Password),
+                Word::Named("password-file", Kind::File),
                 Word::Named("config", Kind::File),
             ),
             Part::Optional(Word::Flag("binding")),

@@ -86,9 +86,9 @@ fn with_part<'a>(
             with_argument(command, argument(alloc, word).action(ArgAction::Append))
         }
         Part::Either(one, other) => with_both(alloc, command, one, other),
-        Part::BothOr(first, second, other) => {
-            let command = with_both(alloc, command, first, second)?;
-            with_argument(command, argument(alloc, other))
+        Part::WithEither(first, one, other, last) => {
+            let command = with_both(alloc, command, first, one)?;
+            with_both(alloc, command, other, last)
         }
     }
 }
