@@ -10,7 +10,7 @@ use Rattle.turn_config.specs.Values.{number_of, IsNumberBelow, IsIp}
 use Rattle.turn_config.specs.declared.settings.Relay.{Relay}
 use Rattle.turn_config.specs.declared.settings.Setting.{Setting}
 use Rattle.turn_config.specs.declared.settings.Setting.TheVariants as settings
-use Rattle.turn_config.specs.declared.settings.Setting.TheVariants.{Realm, Secret, Listen, RelayBind, Quota, Limits, Deny, User, AuthSecret}
+use Rattle.turn_config.specs.declared.settings.Setting.TheVariants.{Realm, Secret, Listen, RelayBind, Quota, Limits, Deny, Local, User, AuthSecret}
 use Rattle.turn_config.proofs.Addresses.{ip_without}
 use Rattle.turn_config.proofs.Numbers.{number_without}
 use Rattle.turn_config.proofs.Splits.{Without, cons_without, same_split}
@@ -98,6 +98,7 @@ name_of_setting RelayBind = visible_without (name_of RelayBind) refl
 name_of_setting Quota = visible_without (name_of Quota) refl
 name_of_setting Limits = visible_without (name_of Limits) refl
 name_of_setting Deny = visible_without (name_of Deny) refl
+name_of_setting Local = visible_without (name_of Local) refl
 name_of_setting User = visible_without (name_of User) refl
 name_of_setting AuthSecret = visible_without (name_of AuthSecret) refl
 

@@ -5,6 +5,7 @@ use Rattle.std.specs.FinMap as map
 use denote.Bor.{Bor}
 use Rattle.hex.specs.Hex.{decode_sized}
 use Rattle.turn_cred.specs.Prelude.{password_of, KeyMap, key_map}
+use Rattle.turn_local.specs.declared.local.LocalPeer.{LocalPeer}
 use Rattle.turn_mac.specs.Hmac.{auth_key}
 use Rattle.turn_types.specs.Prelude.{is_between, is_ordered, AreInRange, max_bounds, max_allocations}
 use Rattle.turn_types.specs.declared.address.Endpoint.{Endpoint}
@@ -112,6 +113,8 @@ pub record Lines : Type 0 where
   pub quota : Option ℕ
   pub limits : Option Bounds
   pub denied : List IpRange
+  -- the peers on the server's own machine that relay ports may send to
+  pub local_peers : List LocalPeer
   -- by users' names
   pub passwords : KeyMap
   -- the shared secret of time-limited credentials
@@ -119,13 +122,13 @@ pub record Lines : Type 0 where
 
 -- what no lines say
 abbrev pub no_lines : Lines
-no_lines = record { realm = None; secret = None; listen = None; relay = None; relay_bind = None; quota = None; limits = None; denied = []; passwords = map.empty; auth_secret = None }
+no_lines = record { realm = None; secret = None; listen = None; relay = None; relay_bind = None; quota = None; limits = None; denied = []; local_peers = []; passwords = map.empty; auth_secret = None }
 
 -- the passwords of a tree of names
 abbrev pub passwords_of : {A : Type 0} → List (Vec ℕ A × Bor (List ℕ)) → KeyMap
 passwords_of entries = key_map (each (λ e. (e.0, e.1.now)) entries)
 
--- What a line does that sets this. A setting is set once, 64 ranges are denied at most, and a name is given once.
+-- What a line does that sets this. A setting is set once, 64 ranges are denied and 16 local peers allowed at most, and a name is given once.
 abbrev pub Sets : Setting → List ℕ → Lines → Lines → Type 0
 Sets settings.Realm text old new = IsRealm text × (old.realm ≡ None) × (new ≡ record old { realm = Some text })
 Sets settings.Secret text old new =
@@ -138,6 +141,9 @@ Sets settings.Quota text old new = IsQuota text × (old.quota ≡ None) × (new 
 Sets settings.Limits text old new = (limits : Bounds) × IsLimits text limits × (old.limits ≡ None) × (new ≡ record old { limits = Some limits })
 Sets settings.Deny text old new =
     (range : IpRange) × IsRange text range × (length old.denied < 64) × (new ≡ record old { denied = old.denied ++ range ∷ [] })
+Sets settings.Local text old new =
+    (relay : Relay) × IsRelay text relay × (length old.local_peers < 16)
+    × (new ≡ record old { local_peers = old.local_peers ++ record { ip = relay.ip; first = relay.ports.0; last = relay.ports.1 } ∷ [] })
 Sets settings.User text old new = (name : List ℕ) × (password : List ℕ) × IsUser text name password × (map.get old.passwords name ≡ None)
     × (new ≡ record old { passwords = map.insert old.passwords name password })
 Sets settings.AuthSecret text old new = IsAuthSecret text × (old.auth_secret ≡ None) × (new ≡ record old { auth_secret = Some text })
@@ -175,6 +181,7 @@ pub record IsConfigured {A : Type 0} (lines : Lines) (c : Configured A) : Type 0
   pub same_realm : c.config.realm ≡ c.realm.now
   pub quota : c.config.quota ≡ unwrap_or lines.quota 10
   pub denied : c.config.denied ≡ lines.denied
+  pub local_peers : c.local_peers ≡ lines.local_peers
   pub limits : c.config.limits ≡ unwrap_or lines.limits max_bounds
   pub passwords : passwords_of c.passwords.entries ≡ lines.passwords
   pub auth_secret : c.auth_secret ≡ lines.auth_secret

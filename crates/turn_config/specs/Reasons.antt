@@ -3,7 +3,7 @@ use Rattle.std.specs.Prelude.{ℕ, Bool, true, false, List, Option, None, option
 use Rattle.turn_config.specs.declared.reason.BadLineReason.{BadLineReason}
 use Rattle.turn_config.specs.declared.reason.BadLineReason.TheVariants.{NoValue, UnknownWord, OtherForm, Repeated, Missing}
 use Rattle.turn_config.specs.declared.settings.Setting.{Setting}
-use Rattle.turn_config.specs.declared.settings.Setting.TheVariants.{Realm, Secret, Listen, Relay, RelayBind, Quota, Limits, Deny, User, AuthSecret}
+use Rattle.turn_config.specs.declared.settings.Setting.TheVariants.{Realm, Secret, Listen, Relay, RelayBind, Quota, Limits, Deny, Local, User, AuthSecret}
 
 -- a password or a secret is in the values of this setting
 abbrev pub is_secret : Setting → Bool
@@ -15,6 +15,7 @@ is_secret RelayBind = false
 is_secret Quota = false
 is_secret Limits = false
 is_secret Deny = false
+is_secret Local = false
 is_secret User = true
 is_secret AuthSecret = true
 

@@ -6,7 +6,7 @@ ghost use Rattle.std.specs.Option.{unwrap_or};
 ghost use Rattle.turn_mac.specs.Hmac.{auth_key};
 ghost use Rattle.turn_types.specs.Limits.{max_bounds};
 ghost use Rattle.turn_config.specs.Lines.{AreUsers, IsConfigured, IsRealm, Lacks, Lines, Says, Sets, is_shared, no_lines, shared_password, skipped};
-ghost use Rattle.turn_config.specs.declared.settings.Setting.TheVariants.{Deny, User};
+ghost use Rattle.turn_config.specs.declared.settings.Setting.TheVariants.{Deny, Local, User};
 
 use crate::settings::{
     Relay, Setting, auth_secret_of, limits_of, quota_of, range_of, realm_of, relay_of, secret_of,
@@ -17,8 +17,9 @@ use std::alloc::{AllocError, Allocator, Global};
 use std::collections::BTreeMap;
 use std::marker::Model;
 use turn_cred::{Credentials, SharedSecret, Users};
+use turn_local::{LocalPeer, LocalPeers};
 use turn_mac::generate_auth_key;
-use turn_ports::PortRange;
+use turn_ports::{PortRange, RelayAddressGenerator};
 use turn_types::{ConfigError, Endpoint, IpRange, Limits, ServerConfig, Settings};
 
 /// The quota of a configuration without a `quota` line.
@@ -39,6 +40,7 @@ pub struct ConfigLines<'a, A: Allocator = Global> {
     quota: Option<u32>,
     limits: Option<Limits>,
     denied: Vec<IpRange, A>,
+    local_peers: LocalPeers,
     passwords: BTreeMap<Vec<u8, A>, &'a [u8], A>,
     auth_secret: Option<&'a [u8]>,
 }
@@ -62,6 +64,7 @@ impl<'a, A: Allocator> Model for ConfigLines<'a, A> {
       quota = c.quota;
       limits = c.limits;
       denied = c.denied.items;
+      local_peers = c.local_peers;
       passwords = passwords_of c.passwords.entries;
       auth_secret = option_map (λ s. s.now) c.auth_secret;
     } };
@@ -82,6 +85,8 @@ pub struct Configured<'a, A: Allocator = Global> {
     pub ports: PortRange,
     /// The address that relay sockets are bound to, if a line says so.
     pub relay_bind: Option<u32>,
+    /// The peers on the server's own machine that relay ports may send to.
+    pub local_peers: LocalPeers,
     /// The realm, as the configuration has it: 1 to 127 bytes.
     pub realm: &'a [u8],
     /// The passwords by the users' names.
@@ -160,6 +165,7 @@ impl<'a, A: Allocator + Copy> ConfigLines<'a, A> {
             quota: None,
             limits: None,
             denied: Vec::new(alloc),
+            local_peers: LocalPeers::new(),
             passwords: BTreeMap::new(alloc),
             auth_secret: None,
         }
@@ -196,6 +202,7 @@ impl<'a, A: Allocator + Copy> ConfigLines<'a, A> {
             Setting::Quota => Ok(put(&mut self.quota, quota_of(text))),
             Setting::Limits => Ok(put(&mut self.limits, limits_of(text))),
             Setting::Deny => self.deny(text),
+            Setting::Local => Ok(self.allow(text)),
             Setting::User => self.add_user(text),
             Setting::AuthSecret => Ok(put(&mut self.auth_secret, auth_secret_of(text))),
         }
@@ -215,6 +222,18 @@ impl<'a, A: Allocator + Copy> ConfigLines<'a, A> {
         }
         self.denied.push(range)?;
         Ok(true)
+    }
+
+    fn allow(&mut self, text: &'a [u8]) -> bool
+        ensures good { result ≡ true → Sets Local text.now self.old self.new }
+        ensures bad { result ≡ false → self.new ≡ self.old }
+        ensures only { (new : Lines) → Sets Local text.now self.old new → result ≡ true }
+    {
+        let Some(Relay { ip, ports }) = relay_of(text) else {
+            return false;
+        };
+        let (first, last) = ports.range();
+        self.local_peers.add(LocalPeer { ip, first, last })
     }
 
     fn add_user(&mut self, text: &'a [u8]) -> Result<bool, AllocError>
@@ -311,6 +330,7 @@ impl<'a, A: Allocator + Copy> ConfigLines<'a, A> {
             relay_bind: self.relay_bind,
             realm,
             auth_secret: self.shared()?,
+            local_peers: self.local_peers,
             passwords: self.passwords,
         }))
     }

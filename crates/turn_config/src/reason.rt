@@ -12,6 +12,7 @@ use crate::settings::{
     setting_of, user_of,
 };
 use crate::values::{endpoint, ip, split_once};
+use turn_local::MAX_LOCAL_PEERS;
 
 /// How many lines of a setting there may be.
 #[derive(Clone, Copy, Debug, PartialEq, Eq)]
@@ -84,6 +85,9 @@ fn secret(word: &'static str, form: &'static str, times: Times) -> Row
     }
 }
 
+/// The form of an address and the first and the last port there.
+const ADDRESS_AND_PORTS: &str = "IP LOW HIGH with an IP of one machine and LOW <= HIGH";
+
 /// The table of all settings.
 fn row_of(setting: Setting) -> Row
     ensures { result.is_secret ≡ is_secret setting }
@@ -92,13 +96,7 @@ fn row_of(setting: Setting) -> Row
         Setting::Realm => open("realm", "1 to 127 visible ASCII characters", Times::Once),
         Setting::Secret => secret("secret", "64 hex digits", Times::Once),
         Setting::Listen => open("listen", "IP:PORT", Times::Once),
-        Setting::Relay => {
-            open(
-                "relay",
-                "IP LOW HIGH with an IP of one machine and LOW <= HIGH",
-                Times::Once,
-            )
-        }
+        Setting::Relay => open("relay", ADDRESS_AND_PORTS, Times::Once),
         Setting::RelayBind => open("relay-bind", "IP", Times::Once),
         Setting::Quota => open("quota", "a number from 1 to 1024", Times::Once),
         Setting::Limits => open(
@@ -107,6 +105,11 @@ fn row_of(setting: Setting) -> Row
             Times::Once,
         ),
         Setting::Deny => open("deny", "IP IP in ascending order", Times::UpTo(MAX_DENIED)),
+        Setting::Local => open(
+            "local-peer",
+            ADDRESS_AND_PORTS,
+            Times::UpTo(MAX_LOCAL_PEERS),
+        ),
         Setting::User => secret("user", "NAME PASSWORD", Times::OnceAName),
         Setting::AuthSecret => {
             secret(
@@ -139,6 +142,7 @@ fn has_form(setting: Setting, value: &[u8]) -> bool
         Setting::Quota => quota_of(value).is_some(),
         Setting::Limits => limits_of(value).is_some(),
         Setting::Deny => range_of(value).is_some(),
+        Setting::Local => relay_of(value).is_some(),
         Setting::User => user_of(value).is_some(),
         Setting::AuthSecret => auth_secret_of(value).is_some(),
     }

@@ -43,6 +43,7 @@ pub(crate) enum Setting {
     Quota,
     Limits,
     Deny,
+    Local,
     User,
     AuthSecret,
 }
@@ -61,6 +62,7 @@ pub(crate) fn setting_of(word: &[u8]) -> Option<Setting>
         b"quota" => Some(Setting::Quota),
         b"limits" => Some(Setting::Limits),
         b"deny" => Some(Setting::Deny),
+        b"local-peer" => Some(Setting::Local),
         b"user" => Some(Setting::User),
         b"auth-secret" => Some(Setting::AuthSecret),
         _ => None,

@@ -1,6 +1,7 @@
 -- The addresses of a server itself.
-use Rattle.std.specs.Prelude.{ℕ, ◌≡◌, ◌≢◌, ◌≤◌, ◌⊎◌, ◌&&◌, Bool, true, not, nat_eq, if◌then◌else◌, List, AllPairs, Any, length}
+use Rattle.std.specs.Prelude.{ℕ, ◌≡◌, ◌≢◌, ◌≤◌, ◌⊎◌, ◌&&◌, ◌||◌, Bool, true, not, nat_eq, if◌then◌else◌, List, AllPairs, Any, length}
 use Rattle.std.specs.List.{list_all, list_any}
+use Rattle.turn_local.specs.Local.{is_local_peer}
 use Rattle.turn_types.specs.Prelude.{is_between}
 use Rattle.turn_types.specs.declared.address.Endpoint.{Endpoint}
 use Rattle.turn_sockets.specs.declared.own.OwnAddresses.{OwnAddresses}
@@ -9,11 +10,13 @@ use Rattle.turn_sockets.specs.declared.own.OwnAddresses.{OwnAddresses}
 abbrev pub AreListened : List Endpoint → Type 0
 AreListened addresses = (length addresses ≤ 9) × AllPairs (λ a b. a ≢ b) addresses
 
+-- an address that clients are told, at which relay ports are bound, or that clients send to
+abbrev pub IsServerIp : OwnAddresses → ℕ → Type 0
+IsServerIp own ip = (ip ≡ own.relay) ⊎ ((ip ≡ own.bound) ⊎ Any (λ a. ip ≡ a.ip) own.listening)
+
 -- a relayed transport address: an address of the server with a port of the range
 abbrev pub IsRelay : OwnAddresses → Endpoint → Type 0
-IsRelay own from =
-    (own.ports.0 ≤ from.port) × (from.port ≤ own.ports.1)
-    × ((from.ip ≡ own.relay) ⊎ ((from.ip ≡ own.bound) ⊎ Any (λ a. from.ip ≡ a.ip) own.listening))
+IsRelay own from = (own.ports.0 ≤ from.port) × (from.port ≤ own.ports.1) × IsServerIp own from.ip
 
 -- an address that clients send to
 abbrev pub IsNamed : OwnAddresses → Endpoint → Type 0
@@ -22,6 +25,26 @@ IsNamed own peer = Any (λ a. (peer.port ≡ a.port) × (peer.ip ≡ a.ip)) own.
 -- an address that clients send to, where 0.0.0.0 is any
 abbrev pub IsListening : OwnAddresses → Endpoint → Type 0
 IsListening own peer = Any (λ a. (peer.port ≡ a.port) × ((a.ip ≡ 0) ⊎ (peer.ip ≡ a.ip))) own.listening
+
+-- An address of the server, or 0.0.0.0: what a socket sends there goes to its own machine.
+abbrev pub IsOwnIp : OwnAddresses → ℕ → Type 0
+IsOwnIp own ip = (ip ≡ 0) ⊎ IsServerIp own ip
+
+-- relay ports are bound at 0.0.0.0, or clients send to it, so that each address of the machine may be the server's
+abbrev pub has_any : OwnAddresses → Bool
+has_any own = nat_eq own.bound 0 || list_any (λ a. nat_eq a.ip 0) own.listening
+
+-- no relay port has this port, and no local peer is at this endpoint
+abbrev pub is_closed : OwnAddresses → Endpoint → Bool
+is_closed own to = not (is_between own.ports.0 own.ports.1 to.port) && not (is_local_peer own.local_peers to)
+
+-- What a relay port sends there is lost: an address that clients send to, and one of the server's own at a closed port.
+abbrev pub IsLost : OwnAddresses → Endpoint → Type 0
+IsLost own to = IsNamed own to ⊎ (IsOwnIp own to.ip × (is_closed own to ≡ true))
+
+-- Nothing else that it sends may be lost so: where 0.0.0.0 is one of the server's addresses, any may be one of the machine.
+abbrev pub MayBeLost : OwnAddresses → Endpoint → Type 0
+MayBeLost own to = IsListening own to ⊎ ((is_closed own to ≡ true) × (IsOwnIp own to.ip ⊎ (has_any own ≡ true)))
 
 -- each socket, by its address, is at one of these addresses, and each address has a socket
 abbrev pub are_at : List Endpoint → List Endpoint → Bool

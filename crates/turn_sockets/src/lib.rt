@@ -39,3 +39,4 @@ pub use schedule::{
 };
 pub use socket::BoundSocket;
 pub use socket_option::RECEIVE_BUFFER;
+pub use turn_local::{LocalPeer, LocalPeers};

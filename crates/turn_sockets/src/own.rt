@@ -2,9 +2,10 @@
 
 ghost use Rattle.std.specs.Prelude.{◌↔◌, ◌≡◌, ◌||◌, ◌&&◌, Any, IsTrue, nat_eq};
 ghost use Rattle.std.specs.List.{list_any};
-ghost use Rattle.turn_sockets.specs.Own.{IsListening, IsNamed, IsRelay, come_from, is_relay_port, sent_to};
+ghost use Rattle.turn_sockets.specs.Own.{IsListening, IsNamed, IsOwnIp, IsRelay, IsServerIp, come_from, has_any, is_closed, is_relay_port, sent_to};
 
 use crate::listening::ListeningAddresses;
+use turn_local::LocalPeers;
 use turn_ports::{PortRange, RelayAddressGenerator};
 use turn_types::Endpoint;
 
@@ -23,6 +24,8 @@ pub struct OwnAddresses {
     pub bound: u32,
     /// The range of the relay ports.
     pub ports: PortRange,
+    /// The peers on the server's own machine that relay ports may send to.
+    pub local_peers: LocalPeers,
 }
 
 /// Whether one of these has an IP address.
@@ -56,6 +59,13 @@ impl OwnAddresses {
         ensures { IsTrue result ↔ Any (λ a. ip ≡ a.ip) self.now.listening }
     {
         has_ip(self.listening.as_slice(), ip)
+    }
+
+    // Whether clients are told an IP address or send to it, or relay ports are bound there.
+    fn is_server_ip(&self, ip: u32) -> bool
+        ensures { IsTrue result ↔ IsServerIp self.now ip }
+    {
+        ip == self.relay || ip == self.bound || self.has_listening_ip(ip)
     }
 
     // Whether a port is of the range.
@@ -98,8 +108,7 @@ impl OwnAddresses {
     pub fn is_relay(&self, from: Endpoint) -> bool
         ensures { IsTrue result ↔ IsRelay self.now from }
     {
-        self.is_relay_port(from.port)
-            && (from.ip == self.relay || from.ip == self.bound || self.has_listening_ip(from.ip))
+        self.is_relay_port(from.port) && self.is_server_ip(from.ip)
     }
 
     /// Whether an address is one that clients send to, by its name.
@@ -114,5 +123,26 @@ impl OwnAddresses {
         ensures { IsTrue result ↔ IsListening self.now peer }
     {
         reach(self.listening.as_slice(), peer)
+    }
+    /// Whether an IP address is the server's own, or 0.0.0.0, by which a socket sends to its own machine.
+    pub fn has_ip(&self, ip: u32) -> bool
+        ensures { IsTrue result ↔ IsOwnIp self.now ip }
+    {
+        ip == 0 || self.is_server_ip(ip)
+    }
+
+    /// Whether each address of the machine may be the server's, since one of its own is 0.0.0.0.
+    pub fn has_any(&self) -> bool
+        ensures { result ≡ has_any self.now }
+    {
+        self.bound == 0 || has_ip(self.listening.as_slice(), 0)
+    }
+
+    /// Whether no relay port has the port of an endpoint, and no local peer is there: at an address of the server's own, what
+    /// a relay port sends there is lost then.
+    pub fn is_closed(&self, to: Endpoint) -> bool
+        ensures { result ≡ is_closed self.now to }
+    {
+        !self.is_relay_port(to.port) && !self.local_peers.has(to)
     }
 }

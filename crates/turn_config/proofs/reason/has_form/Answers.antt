@@ -32,3 +32,9 @@ returns-in-Deny c old new sets =
     let s : Sets settings.Deny c.args.value.now old new = rw c.in-Deny.is at sets in
     let found = c.range_of.ensures.only s.0 s.1 in
     search rules
+
+pub returns-in-Local : goal.returns-in-Local
+returns-in-Local c old new sets =
+    let s : Sets settings.Local c.args.value.now old new = rw c.in-Local.is at sets in
+    let found = c.relay_of-in-Local.ensures.only s.0 s.1 in
+    search rules

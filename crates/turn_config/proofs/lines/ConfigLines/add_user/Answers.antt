@@ -35,6 +35,7 @@ returns-clause-good g c _ =
         quota = c.self.inside.quota;
         limits = c.self.inside.limits;
         denied = c.self.inside.denied.items;
+        local_peers = c.self.inside.local_peers;
         passwords = m;
         auth_secret = option_map (λ s. s.now) c.self.inside.auth_secret;
       }) added

@@ -31,5 +31,11 @@ returns-in-Limits-clause-only g c new sets bad =
 pub returns-in-Deny-clause-only : goal.returns-in-Deny-clause-only
 returns-in-Deny-clause-only g c new sets = c.deny.ensures.only new (rw c.in-Deny.is at sets)
 
+pub returns-in-Local-clause-only : goal.returns-in-Local-clause-only
+returns-in-Local-clause-only g c new sets bad =
+    let s : Sets settings.Local c.args.text.now c.args.self.now new = rw c.in-Local.is at sets in
+    let good = c.allow.ensures.only new s in
+    cc
+
 pub returns-in-User-clause-only : goal.returns-in-User-clause-only
 returns-in-User-clause-only g c new sets = c.add_user.ensures.only new (rw c.in-User.is at sets)
