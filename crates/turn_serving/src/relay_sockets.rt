@@ -23,6 +23,10 @@ pub trait RelaySockets: RelayAddressGenerator {
         ensures found { is_some result ≡ has_socket self.now port }
         ensures at { IfSome result (λ s. s.now ≡ record { ip = bound self.now; port = port }) };
 
+    /// The number of the system's newest refusal to bind a socket that no other port would have changed, as of too many open files, if there
+    /// was one since the last call.
+    fn take_exhausted(&self) -> Option<i32>;
+
     /// Reads the addresses of this machine. `None` if the system doesn't list them.
     fn machine<B: Allocator + Copy>(&self, alloc: B) -> Option<MachineAddresses<B>>;
 }
@@ -34,6 +38,10 @@ impl<'a, R: Net + Files, A: Allocator + Copy> RelaySockets for SocketPorts<'a, R
 
     fn socket(&self, port: u16) -> Option<&BoundSocket> {
         self.socket(port)
+    }
+
+    fn take_exhausted(&self) -> Option<i32> {
+        self.take_exhausted()
     }
 
     fn machine<B: Allocator + Copy>(&self, alloc: B) -> Option<MachineAddresses<B>> {

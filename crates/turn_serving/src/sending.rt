@@ -12,6 +12,7 @@ use crate::listening::Listening;
 use crate::relay_sockets::RelaySockets;
 use crate::watch::Watch;
 use std::alloc::Allocator;
+use std::io;
 use turn_cred::AuthHandler;
 use turn_disk::Disk;
 use turn_engine::{Beside, Server};
@@ -49,6 +50,17 @@ fn is_listening<A: Allocator>(
     own.is_listening(peer) && (own.is_named(peer) || is_local(machine, peer.ip))
 }
 
+/// Shows the watch what the system refused to send.
+fn tell_unsent<A: Allocator + Copy, W: Watch + Drop>(
+    watch: &W,
+    outgoing: &Outgoing<A>,
+    refusal: Option<io::Error>,
+) {
+    if let Some(reason) = refusal {
+        watch.unsent(outgoing, reason);
+    }
+}
+
 /// Sends a datagram, to a client by the socket that its five-tuple names. One that can't be sent is lost, as on any link; so is one
 /// from a relay port to the server itself, and one to a client of an address that no socket has any more.
 fn send<G: RelaySockets, A: Allocator + Copy, W: Watch + Drop>(
@@ -64,7 +76,8 @@ fn send<G: RelaySockets, A: Allocator + Copy, W: Watch + Drop>(
         Outgoing::ToClient { five_tuple, bytes } => {
             // The address that the client sent to.
             if let Some(socket) = listening.socket_of(*five_tuple) {
-                socket.send(record, bytes.as_slice(), five_tuple.client);
+                let refusal = socket.send(record, bytes.as_slice(), five_tuple.client);
+                tell_unsent(&listening.watch, outgoing, refusal);
             }
         }
         Outgoing::ToPeer { port, peer, bytes } => {
@@ -73,7 +86,8 @@ fn send<G: RelaySockets, A: Allocator + Copy, W: Watch + Drop>(
                 return;
             }
             if let Some(socket) = ports.socket(*port) {
-                socket.send(record, bytes.as_slice(), to);
+                let refusal = socket.send(record, bytes.as_slice(), to);
+                tell_unsent(&listening.watch, outgoing, refusal);
             }
         }
     }
@@ -97,6 +111,9 @@ pub(crate) fn send_all<
 {
     for datagram in outgoing {
         send(listening, server.ports(), record, datagram);
+    }
+    if let Some(number) = server.ports().take_exhausted() {
+        listening.watch.exhausted(server.clock(), number);
     }
     listening
         .watch

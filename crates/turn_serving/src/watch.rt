@@ -1,6 +1,7 @@
 //! Who sees what a server takes and sends.
 
 use std::alloc::Allocator;
+use std::io;
 use std::time::Duration;
 use turn_step::{Arrival, Outgoing};
 use turn_table::Table;
@@ -25,6 +26,12 @@ pub trait Watch {
 
     /// These were handed out by a commit and sent, in this order. The moment is that of the last arrival.
     fn sent<A: Allocator + Copy>(&self, moment: Moment, table: &Table<A>, outgoing: &[Outgoing<A>]);
+
+    /// The system refused to send this, for this reason. It is one of those that `answered` or `sent` shows next.
+    fn unsent<A: Allocator + Copy>(&self, outgoing: &Outgoing<A>, reason: io::Error);
+
+    /// The system refused a socket for a relay port at this moment, by this number: no other port would have changed that.
+    fn exhausted(&self, moment: Moment, number: i32);
 
     /// A client's datagram was dropped at this moment, since nothing more may wait for a commit.
     fn shed(&self, moment: Moment);
@@ -55,6 +62,10 @@ impl Watch for Silent {
         _table: &Table<A>,
         _outgoing: &[Outgoing<A>],
     ) {}
+
+    fn unsent<A: Allocator + Copy>(&self, _outgoing: &Outgoing<A>, _reason: io::Error) {}
+
+    fn exhausted(&self, _moment: Moment, _number: i32) {}
 
     fn shed(&self, _moment: Moment) {}
 

@@ -27,8 +27,9 @@ pub(crate) struct Binder<'a, R: Net> {
     pub(crate) registry: Registry,
     // The address on which sockets are bound.
     pub(crate) ip: u32,
-    // The number of the system's newest refusal. No contract speaks of it.
+    // The number of the system's newest refusal, and of the newest that no port would change. No contract speaks of these.
     pub(crate) refusal: Cell<Option<i32>>,
+    pub(crate) exhausted: Cell<Option<i32>>,
 }
 
 /// Whether an error of a bind is of its port alone.
@@ -76,6 +77,7 @@ impl<'a, R: Net> Binder<'a, R> {
         if is_of_port(&error) {
             Ok(Bound::Unavailable)
         } else {
+            self.exhausted.set(error.raw_os_error());
             Ok(Bound::Exhausted)
         }
     }

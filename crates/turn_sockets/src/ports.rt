@@ -117,6 +117,7 @@ impl<'a, R: Net, A: Allocator + Copy> SocketPorts<'a, R, A> {
                 registry,
                 ip,
                 refusal: Cell::new(None),
+                exhausted: Cell::new(None),
             },
             first,
             last,
@@ -149,6 +150,14 @@ impl<'a, R: Net, A: Allocator + Copy> SocketPorts<'a, R, A> {
     /// The number of the system's newest refusal to bind a port, if it gave one.
     pub fn refusal(&self) -> Option<i32> {
         self.binder.refusal.get()
+    }
+
+    /// The number of the system's newest refusal that no other port would have changed, as of too many open files, if there was one
+    /// since the last call.
+    pub fn take_exhausted(&self) -> Option<i32> {
+        let number = self.binder.exhausted.get();
+        self.binder.exhausted.set(None);
+        number
     }
 
     /// Binds a port that has no socket yet, also outside the range. Port 0 is never bound.

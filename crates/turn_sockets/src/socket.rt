@@ -76,12 +76,12 @@ impl BoundSocket {
         receive_buffer(&self.socket)
     }
 
-    /// Sends a datagram, and notes it. One that the system refuses is lost, as on any link.
-    pub fn send(&self, wire: &mut SocketRecord, bytes: &[u8], to: Endpoint)
+    /// Sends a datagram, and notes it. One that the system refuses is lost, as on any link: its reason then.
+    pub fn send(&self, wire: &mut SocketRecord, bytes: &[u8], to: Endpoint) -> Option<Error>
         ensures { wire.new.passed ≡ wire.old.passed ++ Sent self.now to bytes.now ∷ [] }
     {
         wire.note_sent(self.at, to, bytes);
-        let _ = self.socket.send_to(bytes, address_of(to));
+        self.socket.send_to(bytes, address_of(to)).err()
     }
 
     /// Receives a datagram into a buffer: its size, and who sent it. A datagram that doesn't fit loses its end.
