@@ -25,6 +25,7 @@ pub record AreOwnAs (asked own : OwnAddresses) : Type 0 where
   pub relay : own.relay ≡ asked.relay
   pub bound : own.bound ≡ asked.bound
   pub ports : own.ports ≡ asked.ports
+  pub local_peers : own.local_peers ≡ asked.local_peers
 
 -- How much may wait of what was sent to each of these addresses: 1,024 datagrams and 2^20 bytes, shared out, and 64 datagrams of one
 -- five-tuple.

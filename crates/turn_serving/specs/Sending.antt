@@ -1,6 +1,6 @@
 -- What is sent of a datagram that a call of the server hands out.
 use Rattle.std.specs.Prelude.{◌≡◌, ◌≢◌, ◌⊎◌, ℕ, Bool, false, true, List, [], ◌∷◌, ◌++◌, All, Contains}
-use Rattle.turn_sockets.specs.Own.{IsListening, sent_to}
+use Rattle.turn_sockets.specs.Own.{IsLost, MayBeLost, sent_to}
 use Rattle.turn_sockets.specs.Wire.{Passed}
 use Rattle.turn_sockets.specs.Wire.{Sent as sent}
 use Rattle.turn_sockets.specs.declared.own.OwnAddresses.{OwnAddresses}
@@ -26,14 +26,15 @@ abbrev pub port_sockets : {G : Type 0} → (G → ℕ → Bool) → (G → ℕ) 
 port_sockets has_socket bound = record { has_socket = has_socket; bound = bound }
 
 -- What is sent of a datagram that a call hands out, once: to a client from the socket of its five-tuple's server, or nothing if no socket
--- has that address; to a peer from the socket of the relay port, or nothing if the port has none, or if it would come to the server itself. A
--- relay port of the server is reached where it is bound.
+-- has that address; to a peer from the socket of the relay port, or nothing if the port has none, or if it would come to the server itself or
+-- to another program at an address of the server's own, where nothing is ever sent. A relay port of the server is reached where it is bound.
 abbrev pub SendsOne : {G : Type 0} → PortSockets G → Addresses → G → Sent → List Passed → Type 0
 SendsOne relays here ports (ToClient f bytes) out =
     (Contains here.sockets f.server × (out ≡ sent f.server f.client bytes ∷ [])) ⊎ (All (λ at. at ≢ f.server) here.sockets × (out ≡ []))
 SendsOne relays here ports (ToPeer port peer bytes) out =
-    ((relays.has_socket ports port ≡ true) × (out ≡ sent (record { ip = relays.bound ports; port = port }) (sent_to here.own peer) bytes ∷ []))
-    ⊎ (((relays.has_socket ports port ≡ false) ⊎ IsListening here.own (sent_to here.own peer)) × (out ≡ []))
+    ((relays.has_socket ports port ≡ true) × ¬ IsLost here.own (sent_to here.own peer)
+    × (out ≡ sent (record { ip = relays.bound ports; port = port }) (sent_to here.own peer) bytes ∷ []))
+    ⊎ (((relays.has_socket ports port ≡ false) ⊎ MayBeLost here.own (sent_to here.own peer)) × (out ≡ []))
 
 -- what is sent of several, in their order
 abbrev pub SendsEach : {G : Type 0} → PortSockets G → Addresses → G → List Sent → List Passed → Type 0

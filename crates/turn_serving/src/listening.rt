@@ -1,7 +1,6 @@
 //! The sockets that clients send to, and the wait for them and for the relay sockets.
 
-ghost use Rattle.std.specs.Prelude.{◌≡◌, ◌≢◌, ◌↔◌, ◌<◌, ◌+◌, ◌⊎◌, ℕ, All, Contains, IfNone, IfOk, IfSome, List, None, OnOk, nat_eq};
-ghost use Rattle.std.specs.List.{list_any};
+ghost use Rattle.std.specs.Prelude.{◌≡◌, ◌≢◌, ◌↔◌, ◌<◌, ◌+◌, ◌⊎◌, ℕ, All, Contains, IfNone, IfOk, IfSome, List, None, OnOk};
 ghost use Rattle.turn_sockets.specs.Own.{IsRelay};
 ghost use Rattle.turn_sockets.specs.Schedule.{with_all_ready};
 ghost use Rattle.turn_serving.specs.Listening.{AreBoundFor, AreOwnAs, HasSockets, IsBoundFor};
@@ -58,16 +57,9 @@ pub(crate) struct Listening<W: Watch + Drop, A: Allocator = Global> {
     pub(crate) own: OwnAddresses,
     pub(crate) watch: W,
     // The addresses of this machine, once they could be read, and the second from which on they are read again. They count only where
-    // the server listens at 0.0.0.0.
+    // one of the server's is 0.0.0.0.
     pub(crate) machine: Option<MachineAddresses<A>>,
     due: u64,
-}
-
-/// Whether one of these is 0.0.0.0, which is any address of the machine.
-fn has_any(addresses: &[Endpoint]) -> bool
-    ensures { result ≡ list_any (λ a. nat_eq a.ip 0) addresses.now }
-{
-    addresses.iter().any(|a| a.ip == 0)
 }
 
 /// Waits a moment for a port that is in use.
@@ -169,7 +161,7 @@ fn take_all<R: Net, C: Clock, A: Allocator + Copy>(
 }
 
 impl<W: Watch + Drop, A: Allocator + Copy> Listening<W, A> {
-    /// A socket or more for each listening address of these. The machine's addresses are read if one of these is 0.0.0.0; that they can't
+    /// A socket or more for each listening address of these. The machine's addresses are read if one of the server's is 0.0.0.0; that they can't
     /// be read is no fault.
     pub(crate) fn open<R: Net + Files, C: Clock>(
         alloc: A,
@@ -186,7 +178,7 @@ impl<W: Watch + Drop, A: Allocator + Copy> Listening<W, A> {
     {
         let mut sockets = take_all(alloc, net, system, &mut own.listening, sockets)?;
         watch_all(poll, &mut sockets)?;
-        let machine = if has_any(own.listening.as_slice()) {
+        let machine = if own.has_any() {
             MachineAddresses::read(alloc, net).ok()
         } else {
             None
@@ -200,7 +192,7 @@ impl<W: Watch + Drop, A: Allocator + Copy> Listening<W, A> {
         })
     }
 
-    /// Reads the machine's addresses again, once a minute by the server's clock, where the server listens at 0.0.0.0. If they can't be
+    /// Reads the machine's addresses again, once a minute by the server's clock, where one of the server's is 0.0.0.0. If they can't be
     /// read they are what they were.
     pub(crate) fn refresh<G: RelaySockets>(&mut self, ports: &G, moment: Moment)
         ensures sockets { self.new.sockets ≡ self.old.sockets }
@@ -210,7 +202,7 @@ impl<W: Watch + Drop, A: Allocator + Copy> Listening<W, A> {
         ensures early { moment < self.old.due → self.new ≡ self.old }
         ensures due { (self.new.due ≡ self.old.due) ⊎ (self.new.due ≡ moment + 60) }
     {
-        if moment.seconds() < self.due || !has_any(self.own.listening.as_slice()) {
+        if moment.seconds() < self.due || !self.own.has_any() {
             return;
         }
         if let Some(machine) = ports.machine(*self.sockets.allocator()) {

@@ -1,9 +1,9 @@
 //! What a server sends, by its sockets.
 
-ghost use Rattle.std.specs.Prelude.{◌≡◌, ◌≢◌, ◌↔◌, ◌++◌, All, IfNone, IfSome, IsTrue, List, map, option_map, true};
+ghost use Rattle.std.specs.Prelude.{◌≡◌, ◌≢◌, ◌↔◌, ◌⊎◌, ◌++◌, All, IfNone, IfSome, IsTrue, List, map, option_map, false, true};
 ghost use Rattle.std.specs.Option.{option_to_list};
 ghost use Rattle.turn_sockets.specs.Machine.{is_of_machine};
-ghost use Rattle.turn_sockets.specs.Own.{IsListening, IsNamed};
+ghost use Rattle.turn_sockets.specs.Own.{IsListening, IsLost, IsNamed, IsOwnIp, MayBeLost, has_any, is_closed};
 ghost use Rattle.turn_sockets.specs.Wire.{Passed};
 ghost use Rattle.turn_step.specs.Views.{sent_of};
 ghost use Rattle.turn_serving.specs.Sending.{SendsEach, SendsOne, addresses_of, port_sockets};
@@ -61,8 +61,46 @@ fn tell_unsent<A: Allocator + Copy, W: Watch + Drop>(
     }
 }
 
+/// Whether an IP address is the server's own: by its name, or as one of this machine, where one of the server's addresses is 0.0.0.0. Before
+/// the machine's addresses are known only those with a name are its own.
+fn is_own_ip<A: Allocator>(
+    own: &OwnAddresses,
+    machine: &Option<MachineAddresses<A>>,
+    ip: u32,
+) -> bool
+    ensures only { IsTrue result → IsOwnIp own.now ip ⊎ (has_any own.now ≡ true) }
+    ensures named { IsOwnIp own.now ip → IsTrue result }
+    ensures any { has_any own.now ≡ true → IfSome machine.now (λ m. is_of_machine m.prefixes.items ip ≡ true → IsTrue result) }
+    ensures others { ¬ IsOwnIp own.now ip → IfSome machine.now (λ m. IsTrue result → is_of_machine m.prefixes.items ip ≡ true) }
+    ensures unknown { ¬ IsOwnIp own.now ip → IfNone machine.now (result ≡ false) }
+{
+    if own.has_ip(ip) {
+        return true;
+    }
+    match machine {
+        Some(machine) => own.has_any() && machine.has(ip),
+        None => false,
+    }
+}
+
+/// Whether what a relay port sends to an address is lost: it would come to a socket that clients send to, or, at an address of the server's
+/// own, to a port that no relay port has and no local peer.
+fn is_lost<A: Allocator>(
+    own: &OwnAddresses,
+    machine: &Option<MachineAddresses<A>>,
+    to: Endpoint,
+) -> bool
+    ensures only { IsTrue result → MayBeLost own.now to }
+    ensures lost { IsLost own.now to → IsTrue result }
+    // At a closed port it is lost at each address of the machine too, where these count and are known.
+    ensures any { is_closed own.now to ≡ true → has_any own.now ≡ true → IfSome machine.now (λ m. is_of_machine m.prefixes.items to.ip ≡ true → IsTrue result) }
+{
+    is_listening(own, machine, to) || (own.is_closed(to) && is_own_ip(own, machine, to.ip))
+}
+
 /// Sends a datagram, to a client by the socket that its five-tuple names. One that can't be sent is lost, as on any link; so is one
-/// from a relay port to the server itself, and one to a client of an address that no socket has any more.
+/// from a relay port to the server itself or to another program at an address of its own, and one to a client of an address that no socket
+/// has any more.
 fn send<G: RelaySockets, A: Allocator + Copy, W: Watch + Drop>(
     listening: &Listening<W, A>,
     ports: &G,
@@ -82,7 +120,8 @@ fn send<G: RelaySockets, A: Allocator + Copy, W: Watch + Drop>(
         }
         Outgoing::ToPeer { port, peer, bytes } => {
             let to = listening.own.sent_to(*peer);
-            if is_listening(&listening.own, &listening.machine, to) {
+            if is_lost(&listening.own, &listening.machine, to) {
+                listening.watch.lost(*port, to);
                 return;
             }
             if let Some(socket) = ports.socket(*port) {

@@ -31,8 +31,8 @@ use turn_history::Reservation;
 use turn_ports::{PortRange, RelayAddressGenerator};
 use turn_record::Version;
 use turn_sockets::{
-    Backlog, Bound, Buffer, DataIds, ListeningAddresses, OwnAddresses, Room, Schedule, SocketPorts,
-    SocketRecord,
+    Backlog, Bound, Buffer, DataIds, ListeningAddresses, LocalPeers, OwnAddresses, Room, Schedule,
+    SocketPorts, SocketRecord,
 };
 use turn_store::{OpenError, Opened, Store, StoreOpenError};
 use turn_table::Table;
@@ -49,6 +49,8 @@ pub struct Setup<'c, A: Allocator = Global> {
     pub ports: PortRange,
     /// The address on which relay sockets are bound, if it isn't the one that clients are told.
     pub relay_bind: Option<u32>,
+    /// The peers on the server's own machine that relay ports may send to.
+    pub local_peers: &'c LocalPeers,
     /// How many datagrams a turn reads, as `Commits` says.
     pub burst: u8,
     /// When what was accepted is written, and how sockets are read.
@@ -191,12 +193,14 @@ impl<'c, A: Allocator + Copy> Setup<'c, A> {
         ensures relay { result.relay ≡ self.now.config.now.relay }
         ensures bound { result.bound ≡ unwrap_or self.now.relay_bind self.now.config.now.relay }
         ensures ports { result.ports ≡ self.now.ports }
+        ensures local_peers { result.local_peers ≡ self.now.local_peers.now }
     {
         OwnAddresses {
             listening: self.listen.copied(),
             relay: self.config.relay(),
             bound: self.bound(),
             ports: self.ports,
+            local_peers: self.local_peers.copied(),
         }
     }
 
@@ -275,6 +279,7 @@ impl<'c, A: Allocator + Copy> Setup<'c, A> {
           relay = self.now.config.now.relay;
           bound = unwrap_or self.now.relay_bind self.now.config.now.relay;
           ports = self.now.ports;
+          local_peers = self.now.local_peers.now;
         }) beside.listening.own) }
     {
         let poll = Poll::new(net).map_err(|reason| BindError::of(Needed::Wait, reason))?;
@@ -301,12 +306,15 @@ impl<'c, A: Allocator + Copy> Setup<'c, A> {
     /// store as it was. A refusal returns the disk.
     /// `watch` sees what the server sends.
     ///
-    /// Where the server listens at 0.0.0.0 the machine's addresses are read of the kernel's list of routes. Until that can be read each
-    /// address counts as one of them: what a relay port sends to any peer at such a port is lost.
+    /// What a relay port sends to an address of the server's own is lost, but for relay ports and local peers. Where the server listens at
+    /// 0.0.0.0, or binds relay ports there, the machine's addresses are its own. They are read of the kernel's list of routes. Until that can
+    /// be read none but those with a name is its own, but for the ports that clients send to: what a relay port sends there is lost, whoever
+    /// the peer is.
     ///
     /// ```rust
     /// let (relay_bind, commits, seed) = (ip(b"127.0.0.1"), Commits::EachTurn, [0; 32]);
-    /// let setup = Setup { config: &config, listen: &listen, ports, relay_bind, burst: 64, commits, seed, awaited: None };
+    /// let local_peers = &LocalPeers::new();
+    /// let setup = Setup { config: &config, listen: &listen, ports, relay_bind, local_peers, burst: 64, commits, seed, awaited: None };
     /// let serving = match setup.start(alloc, &rt, &rt, disk, users, ListeningSockets::Bound, Silent) {
     ///     Ok(serving) => serving,
     ///     Err(refused) => bail!("not started: {}", refused.fault),
@@ -350,6 +358,7 @@ impl<'c, A: Allocator + Copy> Setup<'c, A> {
           relay = self.now.config.now.relay;
           bound = unwrap_or self.now.relay_bind self.now.config.now.relay;
           ports = self.now.ports;
+          local_peers = self.now.local_peers.now;
         }) serving.addresses.own) }
         // Relay ports are bound at the address of the configuration, if the setup has no other one.
         ensures relay_bound { IfOk result (λ serving. ⟦<SocketPorts<'a, R, A> as RelaySockets>⟧.bound serving.server.machine.ports

@@ -5,7 +5,7 @@ use std::io;
 use std::time::Duration;
 use turn_step::{Arrival, Outgoing};
 use turn_table::Table;
-use turn_types::Moment;
+use turn_types::{Endpoint, Moment};
 
 /// Sees the turns of a server, and what they send. Nothing that it does changes what a turn does with the server.
 pub trait Watch {
@@ -29,6 +29,10 @@ pub trait Watch {
 
     /// The system refused to send this, for this reason. It is one of those that `answered` or `sent` shows next.
     fn unsent<A: Allocator + Copy>(&self, outgoing: &Outgoing<A>, reason: io::Error);
+
+    /// What the relay port was to send to this address is lost, since the address is the server's own. It is one of those that `answered` or
+    /// `sent` shows next.
+    fn lost(&self, port: u16, to: Endpoint);
 
     /// The system refused a socket for a relay port at this moment, by this number: no other port would have changed that.
     fn exhausted(&self, moment: Moment, number: i32);
@@ -64,6 +68,8 @@ impl Watch for Silent {
     ) {}
 
     fn unsent<A: Allocator + Copy>(&self, _outgoing: &Outgoing<A>, _reason: io::Error) {}
+
+    fn lost(&self, _port: u16, _to: Endpoint) {}
 
     fn exhausted(&self, _moment: Moment, _number: i32) {}
 

@@ -5,6 +5,7 @@ use super::started::start;
 use super::talks::{ANY, BINDING, HOME, PLAIN, new_disk};
 use std::alloc::Allocator;
 use std::cell::Cell;
+use std::io;
 use std::test::Fail;
 use std::time::Duration;
 use turn_client::TimedSocket;
@@ -128,6 +129,12 @@ impl<'w, 's> Watch for &'w Sending<'s> {
             self.before.set(self.answered.get());
         }
     }
+
+    fn unsent<A: Allocator + Copy>(&self, _outgoing: &Outgoing<A>, _reason: io::Error) {}
+
+    fn lost(&self, _port: u16, _to: Endpoint) {}
+
+    fn exhausted(&self, _moment: Moment, _number: i32) {}
 
     fn shed(&self, _moment: Moment) {
         self.shed.set(self.shed.get().saturating_add(1));

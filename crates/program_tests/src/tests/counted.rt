@@ -4,6 +4,7 @@ use super::started::start;
 use super::talks::{ALICE, ANY, BINDING, HOME, new_disk, tell};
 use std::alloc::{Allocator, Global};
 use std::cell::{Cell, RefCell};
+use std::io;
 use std::test::Fail;
 use std::time::Duration;
 use turn_client::{Client, TimedSocket};
@@ -101,6 +102,12 @@ impl<'c> Watch for &'c Counts {
         _table: &Table<A>,
         _outgoing: &[Outgoing<A>],
     ) {}
+
+    fn unsent<A: Allocator + Copy>(&self, _outgoing: &Outgoing<A>, _reason: io::Error) {}
+
+    fn lost(&self, _port: u16, _to: Endpoint) {}
+
+    fn exhausted(&self, _moment: Moment, _number: i32) {}
 
     fn shed(&self, _moment: Moment) {}
 

@@ -14,7 +14,7 @@ use turn_config::read_config;
 use turn_serving::{Commits, Watch};
 use turn_step::{Arrival, Outgoing};
 use turn_table::Table;
-use turn_types::{Method, Moment};
+use turn_types::{Endpoint, Method, Moment};
 
 const CONFIG: &[u8] = b"realm example.org
 user alice wonder
@@ -78,6 +78,12 @@ impl<'s> Watch for &'s Seen {
             self.sent.set(moment.seconds());
         }
     }
+
+    fn unsent<A: Allocator + Copy>(&self, _outgoing: &Outgoing<A>, _reason: io::Error) {}
+
+    fn lost(&self, _port: u16, _to: Endpoint) {}
+
+    fn exhausted(&self, _moment: Moment, _number: i32) {}
 
     fn shed(&self, _moment: Moment) {}
 
