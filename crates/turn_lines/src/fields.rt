@@ -1,11 +1,14 @@
 //! What a line has beside the response.
 
+ghost use Rattle.std.specs.Prelude.{◌≡◌, ◌≤◌, ◌⊎◌, IsTrue, false, length};
+ghost use Rattle.turn_log.specs.Names.{shown_name, text_of};
+
 use crate::asked::Asked;
 use std::alloc::{AllocError, Allocator, Global};
 use turn_codec::{AttributeType, Message, read_xor_address};
 use turn_config::{ShownEndpoint, ShownIp};
 use turn_cred::Credentials;
-use turn_log::{Cause, ShownName, cause_of, has_credentials};
+use turn_log::{Cause, CutName, NamedPeers, cause_of, has_credentials, has_passed};
 use turn_player::Effect;
 use turn_scenario::event_text;
 use turn_step::Outgoing;
@@ -54,6 +57,17 @@ impl<'a, A: Allocator + Copy> Answer<'a, A> {
     /// The relayed port of the allocation that the client had before the request.
     pub(crate) fn port_before(&self) -> Option<u16> {
         self.asked?.port()
+    }
+
+    /// Whether the client's credentials passed, where the response is an error of this code. Of a request that isn't remembered the
+    /// code alone tells: by 400 they may not have.
+    pub(crate) fn has_passed(&self, code: u16) -> bool
+        ensures { (code ≡ 401) ⊎ (code ≡ 438) → result ≡ false }
+    {
+        match self.message() {
+            Some(message) => has_passed(code, &message),
+            None => !matches!(code, 400 | 401 | 438),
+        }
     }
 
     /// The allocation of the client, if it has one now.
@@ -129,15 +143,18 @@ fn peer_text(
     }
 }
 
-/// The peers that a CreatePermission or a ChannelBind names.
+/// The peers that a CreatePermission or a ChannelBind names: the first 32, and how many more.
 pub(crate) fn peers_text(alloc: Global, message: &Message<'_>) -> Result<String, AllocError> {
     let has_port = message.method() == Method::CHANNEL_BIND;
+    let peers = NamedPeers::new(message);
     let mut text = String::new(alloc);
-    for (kind, value) in message.seen() {
-        if kind == AttributeType::XOR_PEER_ADDRESS {
-            let peer = peer_text(alloc, read_xor_address(value, message.tx()), has_port)?;
-            text.push_str(peer.as_str())?;
-        }
+    for value in peers.shown() {
+        let peer = peer_text(alloc, read_xor_address(value, message.tx()), has_port)?;
+        text.push_str(peer.as_str())?;
+    }
+    if peers.more() > 0 {
+        let more = peers.more();
+        text.push_str(format!(in alloc; " and {more} more")?.as_str())?;
     }
     Ok(text)
 }
@@ -165,11 +182,25 @@ pub(crate) fn asked_text(
     }
 }
 
+/// A name in a request, whose credentials passed or didn't.
+fn cut_name(name: &[u8], has_passed: bool) -> CutName<'_>
+    ensures stranger { ¬ (IsTrue has_passed) → length (text_of result) ≤ 66 }
+    ensures user { length (text_of result) ≤ 510 }
+    ensures whole { length (shown_name name.now) ≤ 64 → text_of result ≡ shown_name name.now }
+{
+    if has_passed {
+        CutName::of_user(name)
+    } else {
+        CutName::of_stranger(name)
+    }
+}
+
 /// The name in an error's request, where it isn't that of the allocation.
 pub(crate) fn name_text<A: Allocator + Copy>(
     alloc: Global,
     answer: Answer<'_, A>,
     message: &Message<'_>,
+    has_passed: bool,
 ) -> Result<String, AllocError> {
     let Some(name) = message.seen_value(AttributeType::USERNAME) else {
         return Ok(String::new(alloc));
@@ -177,7 +208,7 @@ pub(crate) fn name_text<A: Allocator + Copy>(
     match answer.entry() {
         Some(entry) if entry.user() == name => Ok(String::new(alloc)),
         _ => {
-            let name = ShownName(name);
+            let name = cut_name(name, has_passed);
             format!(in alloc; " name={name}")
         }
     }

@@ -1,11 +1,14 @@
 //! The lines of a log, and what decides which there are.
 
-ghost use Rattle.std.specs.Prelude.{◌≡◌, ◌↔◌, IfNone, IfSome, IsSome, IsTrue, None, Some, max};
+ghost use Rattle.std.specs.Prelude.{◌≡◌, ◌↔◌, ◌⊎◌, ◌<◌, ◌≤◌, IfNone, IfSome, IsSome, IsTrue, None, Some, false, max, true};
 ghost use Rattle.std.specs.Option.{option_map_or};
 ghost use Rattle.turn_log.specs.declared.counts.About.TheVariants as matters;
+ghost use Rattle.turn_lines.specs.declared.done.Done.TheVariants as successes;
 ghost use Rattle.turn_log.specs.declared.limit.Line.TheVariants as lines;
+ghost use Rattle.turn_log.specs.declared.response.Response.TheVariants as responses;
 
 use crate::asked::Asked;
+use crate::done::{Done, done_of};
 use crate::fields::{
     Answer, Known, asked_text, at_text, name_text, peers_text, port_text, reason_text,
     response_text,
@@ -20,7 +23,7 @@ use turn_codec::{AttributeType, Message};
 use turn_config::{ShownEndpoint, ShownIp};
 use turn_log::{
     About, Challenged, Counted, DroppedCount, Line, LineLimit, Log, NOBODY, Response, Room,
-    ShownName, Subject, is_slow, response_of,
+    ShownName, Subject, Tally, is_slow, peers_left_out, response_of,
 };
 use turn_step::{Arrival, Outgoing};
 use turn_table::Table;
@@ -74,6 +77,15 @@ fn repeated_text(alloc: Global, counted: &Counted) -> Result<String, AllocError>
     }
 }
 
+/// How often an allocation was refreshed in a second that had one line of it. The key is its relayed port.
+fn refreshes_text(alloc: Global, key: &[u8], count: u64) -> Result<String, AllocError> {
+    let port = match key {
+        [high, low] => u16::from_be_bytes([*high, *low]),
+        _ => 0,
+    };
+    format!(in alloc; "{count} x refresh port={port}")
+}
+
 /// How many lines a second lacks, by their codes.
 fn left_out_text(alloc: Global, ended: &LineLimit) -> Result<Option<String>, AllocError> {
     let mut total = ended.lost();
@@ -93,29 +105,63 @@ fn left_out_text(alloc: Global, ended: &LineLimit) -> Result<Option<String>, All
     Ok(Some(format!(in alloc; "left out {total}:{kinds}")?))
 }
 
-/// What the line of a success is, of a client with this address. An Allocate of a client that had its allocation before is a repeat:
-/// nothing is written for it, so there may be any number.
-fn line_of_success(client: u32, is_allocate: bool, port_before: Option<u16>) -> Line
-    ensures of_user { (result ≡ lines.OfUser) ↔ ¬ (IsTrue is_allocate × IsSome port_before) }
-    ensures repeat { IsTrue is_allocate → IsSome port_before
+/// What the line of a success is, of a client with this address. `before` is the relayed port of the allocation that the client had
+/// before the request, `entry` the port of the one that it has now, with its user. An Allocate of a client that had its allocation
+/// before is a repeat: nothing is written for it, so there may be any number.
+fn line_of_success<'a>(
+    client: u32,
+    done: Done,
+    before: Option<u16>,
+    entry: Option<(u16, &'a [u8])>,
+) -> Line<'a>
+    ensures end { done ≡ successes.End → result ≡ lines.OfUser }
+    ensures allocation { done ≡ successes.Allocate → before ≡ None → result ≡ lines.OfUser }
+    ensures repeat { done ≡ successes.Allocate → IsSome before
         → result ≡ lines.Of (record { ip = client; about = matters.Repeat; cause = None }) }
+    ensures refresh { done ≡ successes.Refresh → IfSome entry.entry (λ e. result ≡ lines.OfRefresh e.0) }
+    ensures peers { done ≡ successes.Peers → IfSome entry.entry (λ e. result ≡ lines.OfPeers e.1) }
 {
-    if is_allocate && port_before.is_some() {
-        return Line::Of(Subject {
+    match (done, before, entry) {
+        (Done::Allocate, Some(_), _) => Line::Of(Subject {
             ip: client,
             about: About::Repeat,
             cause: None,
-        });
+        }),
+        (Done::Refresh, _, Some((port, _))) => Line::OfRefresh(port),
+        (Done::Peers, _, Some((_, user))) => Line::OfPeers(user),
+        _ => Line::OfUser,
     }
-    Line::OfUser
 }
 
-/// Whether a response is to an Allocate.
-fn is_of_allocate<A: Allocator + Copy>(answer: Answer<'_, A>) -> bool {
-    match answer.message() {
-        Some(message) => message.method() == Method::ALLOCATE,
-        None => false,
+/// What the line of an error is about a subject, to a client whose credentials passed or didn't.
+fn line_of_error(subject: Subject, has_passed: bool) -> Line<'static>
+    ensures user { IsTrue has_passed → result ≡ lines.Of subject }
+    ensures stranger { ¬ (IsTrue has_passed) → result ≡ lines.OfStranger subject }
+{
+    if has_passed {
+        Line::Of(subject)
+    } else {
+        Line::OfStranger(subject)
     }
+}
+
+/// Whether a line has the peers of the request: not of one whose credentials didn't pass.
+fn has_peers<A: Allocator + Copy>(answer: Answer<'_, A>, response: Response) -> bool
+    ensures success { response ≡ responses.Success → result ≡ true }
+    ensures stranger { (response ≡ responses.Error 401) ⊎ (response ≡ responses.Error 438) → result ≡ false }
+{
+    match response {
+        Response::Success => true,
+        Response::Error(code) => answer.has_passed(code),
+    }
+}
+
+/// Whether a log has a line of an allocation that expired: since the process was started, since a table was looked at last, and by now.
+/// What expired before the start was told by the process that ran then, if one did.
+fn is_told(expiry: u64, started: u64, looked: u64, now: u64) -> bool
+    ensures { IsTrue result ↔ ((started < expiry) × (looked < expiry) × (expiry ≤ now)) }
+{
+    started < expiry && looked < expiry && expiry <= now
 }
 
 /// The lines of a server's log.
@@ -126,6 +172,8 @@ pub struct Lines<'l, L: Write + Drop> {
     limit: LineLimit,
     dropped: DroppedCount,
     challenged: Challenged,
+    // The second at which the process was started.
+    started: u64,
     // The moment up to which expired allocations are told.
     looked: Option<Moment>,
     known: Option<Known>,
@@ -151,9 +199,10 @@ impl<'l, L: Write + Drop> Lines<'l, L> {
         Lines {
             alloc,
             log,
-            limit: LineLimit::new(0),
+            limit: LineLimit::new(alloc, 0),
             dropped: DroppedCount::new(),
             challenged: Challenged::new(),
+            started: 0,
             looked: None,
             known: None,
             usages: Usages::none(alloc),
@@ -161,12 +210,14 @@ impl<'l, L: Write + Drop> Lines<'l, L> {
         }
     }
 
-    /// Learns what it says of a server. From this second on it counts what is relayed by ports of the range.
+    /// Learns what it says of a server. From this second on it counts what is relayed by ports of the range, and tells which allocations
+    /// expire.
     pub fn know(&mut self, known: Known, ports: (u16, u16), second: u64) -> Result<(), AllocError>
         ensures { self.new ≡ self.old }
     {
         self.usages = Usages::new(self.alloc, ports, second)?;
         self.known = Some(known);
+        self.started = second;
         Ok(())
     }
 
@@ -184,13 +235,37 @@ impl<'l, L: Write + Drop> Lines<'l, L> {
     }
 
     // Says how often that came of which a second had one line.
-    fn tell_repeats(&mut self, second: u64, ended: &LineLimit)
+    fn tell_repeats(&mut self, second: u64, counts: &[Counted])
         ensures { self.new ≡ self.old }
     {
-        for counted in ended.repeats() {
+        for counted in counts {
             if counted.count > 1 {
                 let text = repeated_text(self.alloc, counted);
                 self.put(second, NOBODY, text);
+            }
+        }
+    }
+
+    // Says how often each allocation was refreshed that had one line for it.
+    fn tell_refreshes(&mut self, second: u64, refreshes: &Tally)
+        ensures { self.new ≡ self.old }
+    {
+        for (key, count) in refreshes.counts() {
+            if *count > 1 {
+                let text = refreshes_text(self.alloc, key.as_slice(), *count);
+                self.put(second, NOBODY, text);
+            }
+        }
+    }
+
+    // Says how many lines of peers of each user were left out.
+    fn tell_peers(&mut self, second: u64, peers: &Tally)
+        ensures { self.new ≡ self.old }
+    {
+        for (user, count) in peers.counts() {
+            if let Some(left_out) = peers_left_out(*count) {
+                let text = format!(in self.alloc; "left out {left_out} x permit or bind");
+                self.put(second, ShownName(user.as_slice()), text);
             }
         }
     }
@@ -231,7 +306,11 @@ impl<'l, L: Write + Drop> Lines<'l, L> {
         ensures { self.new ≡ self.old }
     {
         if let Some(ended) = self.limit.begin(second) {
-            self.tell_repeats(second, &ended);
+            self.tell_repeats(second, ended.commits());
+            self.tell_repeats(second, ended.users());
+            self.tell_repeats(second, ended.strangers());
+            self.tell_refreshes(second, ended.refreshes());
+            self.tell_peers(second, ended.peers());
             self.tell_left_out(second, &ended);
         }
         self.tell_dropped(second);
@@ -288,7 +367,8 @@ impl<'l, L: Write + Drop> Lines<'l, L> {
         match response {
             Response::Success => self.success_text(second, answer, message),
             Response::Error(code) => {
-                let name = name_text(self.alloc, answer, message)?;
+                let has_passed = answer.has_passed(code);
+                let name = name_text(self.alloc, answer, message, has_passed)?;
                 let reason = reason_text(self.alloc, known, answer, message, code)?;
                 format!(in self.alloc; "{name}{reason}")
             }
@@ -306,7 +386,11 @@ impl<'l, L: Write + Drop> Lines<'l, L> {
         let is_in_response = response == Response::Success && message.method() == Method::ALLOCATE;
         let at = at_text(self.alloc, known, answer.five_tuple)?;
         let port = port_text(self.alloc, answer, is_in_response)?;
-        let peers = peers_text(self.alloc, message)?;
+        let peers = if has_peers(answer, response) {
+            peers_text(self.alloc, message)?
+        } else {
+            String::new(self.alloc)
+        };
         format!(in self.alloc; "{at}{port}{peers}")
     }
 
@@ -375,16 +459,18 @@ impl<'l, L: Write + Drop> Lines<'l, L> {
                 self.challenged.forget(answer.five_tuple);
                 line_of_success(
                     answer.five_tuple.client.ip,
-                    is_of_allocate(answer),
+                    done_of(answer.bytes),
                     answer.port_before(),
+                    answer.entry().map(|entry| (entry.port(), entry.user())),
                 )
             }
             Response::Error(code) => match self.subject(answer, code) {
-                Some(subject) => Line::Of(subject),
+                Some(subject) => line_of_error(subject, answer.has_passed(code)),
                 None => return,
             },
         };
-        if self.limit.take(line) == Room::Written {
+        // One for which there is no memory to count it has a line, as the first.
+        if self.limit.take(line).unwrap_or(Room::Written) == Room::Written {
             self.put_answer(second, answer, response);
         }
         if response == Response::Success {
@@ -591,7 +677,7 @@ impl<'l, L: Write + Drop> Lines<'l, L> {
     {
         let second = self.second_of(moment);
         self.begin(second);
-        if is_slow(took) && self.limit.take(Line::Of(Subject::default())) == Room::Written {
+        if is_slow(took) && matches!(self.limit.take(Line::OfCommit), Ok(Room::Written)) {
             let millis = took.as_millis();
             let text = format!(in self.alloc; "commit took {millis} ms");
             self.put(second, NOBODY, text);
@@ -604,7 +690,7 @@ impl<'l, L: Write + Drop> Lines<'l, L> {
     {
         for (five_tuple, entry) in table.entries() {
             let (expiry, port) = (entry.expiry(), entry.port());
-            if after < expiry && expiry <= second {
+            if is_told(expiry, self.started, after, second) {
                 let text = expired_text(
                     self.alloc,
                     five_tuple,

@@ -1,8 +1,9 @@
 -- Why the credentials of a request didn't pass (RFC 8489, section 9.2.4), where they are all there.
-use Rattle.std.specs.Prelude.{ℕ, not, ◌&&◌, Bool, false, List, [], ◌∷◌, Option, Some, None, is_none, unwrap_or, if◌then◌else◌, bytes_eq}
+use Rattle.std.specs.Prelude.{ℕ, not, ◌&&◌, ◌||◌, ◌==◌, Bool, false, List, [], ◌∷◌, Option, Some, None, is_none, unwrap_or, bytes_eq}
 use Rattle.std.specs.Option.{option_map_or}
 use Rattle.turn_codec.specs.Prelude.{username, realm, nonce, Datagram, seen_value, is_seen}
-use Rattle.turn_cred.specs.Prelude.{Keys, has_integrity}
+use Rattle.turn_cred.specs.Credential.Verdict.{Challenge401}
+use Rattle.turn_cred.specs.Prelude.{Keys, Verdict, Bad400, Passed, Stale438, has_integrity}
 use Rattle.turn_mac.specs.Integrity.{has_right_integrity}
 use Rattle.turn_types.specs.Prelude.{first_row}
 use Rattle.turn_log.specs.declared.cause.Cause.{Cause}
@@ -23,3 +24,15 @@ cause_of its_realm keys d =
     (is_none key, Unknown) ∷
     (not (option_map_or (λ k. has_right_integrity k.bytes d) key false), Integrity) ∷ [])
     Expired
+
+-- The credentials of a request that was answered by an error passed. By 401 and 438 they didn't, nor by a 400 to one with a
+-- MESSAGE-INTEGRITY and no name, realm or nonce before it. What is answered by another code has passed.
+abbrev pub has_passed : ℕ → Datagram → Bool
+has_passed code d = not ((code == 401) || (code == 438)) && (not (code == 400) || has_credentials d)
+
+-- the code by which the credential check refuses a request, if it does
+abbrev pub refusal : Verdict → Option ℕ
+refusal Challenge401 = Some 401
+refusal Bad400 = Some 400
+refusal Stale438 = Some 438
+refusal (Passed user key) = None

@@ -1,63 +1,97 @@
--- Which lines of a second are written, which are counted as repeats, and which are left out.
-use Rattle.std.specs.Prelude.{ℕ, ◌+◌, ◌-◌, ◌^◌, ◌==◌, ◌&&◌, nat_lt, if◌then◌else◌, Bool, List, [], ◌∷◌, ◌++◌, Option, Some, None, length, min, position, slice_index_or, slice_set}
-use Rattle.turn_log.specs.declared.cause.Cause.{Cause}
-use Rattle.turn_log.specs.declared.cause.Cause.TheVariants.{Realm, Unknown, Integrity, Expired}
-use Rattle.turn_log.specs.declared.counts.About.{About}
-use Rattle.turn_log.specs.declared.counts.About.TheVariants.{Commit, Repeat, Error}
-use Rattle.turn_log.specs.declared.counts.Subject.{Subject}
+-- The lines of a second.
+use Rattle.std.specs.Prelude.{ℕ, List, [], ◌∷◌, ◌/◌, ◌%◌, ◌==◌, nat_lt, Bool, false, true, None, if◌then◌else◌}
+use Rattle.std.specs.FinMap as map
+use Rattle.turn_log.specs.Counting.{counted, room_in}
+use Rattle.turn_log.specs.Tallies.{Tallied, count_of, one_more}
+use Rattle.turn_log.specs.declared.counts.About.TheVariants.{Commit}
 use Rattle.turn_log.specs.declared.counts.Counted.{Counted}
+use Rattle.turn_log.specs.declared.counts.Room.{Room}
+use Rattle.turn_log.specs.declared.counts.Room.TheVariants.{Written, Repeated, LeftOut}
+use Rattle.turn_log.specs.declared.counts.Subject.{Subject}
+use Rattle.turn_log.specs.declared.limit.Line.{Line}
+use Rattle.turn_log.specs.declared.limit.Line.TheVariants.{OfUser, OfRefresh, OfPeers, OfCommit, Of, OfStranger}
 
--- a number for each cause, and for none
-abbrev pub ordinal : Option Cause → ℕ
-ordinal None = 0
-ordinal (Some Realm) = 1
-ordinal (Some Unknown) = 2
-ordinal (Some Integrity) = 3
-ordinal (Some Expired) = 4
+-- how many subjects of strangers have a line in a second
+abbrev pub strangers_at_most : ℕ
+strangers_at_most = 25
 
--- a number for what a line is about
-abbrev pub number_of : About → ℕ
-number_of Commit = 0
-number_of Repeat = 1
-number_of (Error code) = 2 + code
+-- how many subjects of users have one
+abbrev pub users_at_most : ℕ
+users_at_most = 60
 
--- two lines are about the same: address, matter and cause
-abbrev pub is_same : Subject → Subject → Bool
-is_same a b = (a.ip == b.ip) && ((number_of a.about == number_of b.about) && (ordinal a.cause == ordinal b.cause))
+-- how many lines of peers, of a CreatePermission or a ChannelBind, a user has in a second
+abbrev pub peers_at_most : ℕ
+peers_at_most = 20
 
--- the place of a subject among those that were counted
-abbrev pub place_in : List Counted → Subject → Option ℕ
-place_in counts s = position (λ c. is_same c.subject s) counts
+-- a port as a key: two bytes
+abbrev pub key_of : ℕ → List ℕ
+key_of port = port / 256 ∷ port % 256 ∷ []
 
--- one more, up to 2^64 - 1
-abbrev pub more : ℕ → ℕ
-more n = min (n + 1) (2 ^ 64 - 1)
-
--- the counts after one more of a subject that has a place
-abbrev pub again_at : List Counted → ℕ → List Counted
-again_at counts place =
-    let c = slice_index_or counts place (record { subject = record { ip = 0; about = Commit; cause = None }; count = 0 }) in
-    slice_set counts place (record { subject = c.subject; count = more c.count })
-
--- the counts after one more of a subject, of which there are so many at most; one that finds no place changes nothing
-abbrev pub counted : ℕ → List Counted → Subject → List Counted
-counted most counts s = go (place_in counts s) where
-  go : Option ℕ → List Counted
-  go (Some place) = again_at counts place
-  go None = if nat_lt (length counts) most then counts ++ record { subject = s; count = 1 } ∷ [] else counts
-
--- how many subjects have lines in a second
-abbrev pub at_most : ℕ
-at_most = 90
-
--- the lines of a second: how often each subject came, the first time with a line; how many about each matter were left out; and how
--- many could not be written
+-- the lines of a second: how often each subject came, the first time with a line, of strangers, of users, and of slow commits; how
+-- often each port was refreshed, the first time with a line; how often each user named peers; how many about each matter were left
+-- out; and how many could not be written
 pub record LinesState : Type 0 where
   pub second : ℕ
-  pub repeats : List Counted
+  pub strangers : List Counted
+  pub users : List Counted
+  pub commits : List Counted
+  pub refreshes : Tallied
+  pub peers : Tallied
   pub left_out : List Counted
   pub lost : ℕ
 
 -- a second without a line
 abbrev pub begun : ℕ → LinesState
-begun second = record { second = second; repeats = []; left_out = []; lost = 0 }
+begun second = record { second = second; strangers = []; users = []; commits = []; refreshes = map.empty; peers = map.empty; left_out = []; lost = 0 }
+
+-- what a slow commit is about
+abbrev pub commit : Subject
+commit = record { ip = 0; about = Commit; cause = None }
+
+-- Whether a line is written. Of an allocation and of an end it always is. The first Refresh of a port in a second has a line, and 20
+-- of each user that name peers; a slow commit, an error and a repeat if it is the first about its subject, and there is a place for it
+-- beside the others of its kind.
+abbrev pub room_of : LinesState → Line → Room
+room_of l OfUser = Written
+room_of l (OfRefresh port) = if count_of l.refreshes (key_of port) == 0 then Written else Repeated
+room_of l (OfPeers user) = if nat_lt (count_of l.peers user.now) peers_at_most then Written else Repeated
+room_of l OfCommit = room_in 1 l.commits commit
+room_of l (Of s) = room_in users_at_most l.users s
+room_of l (OfStranger s) = room_in strangers_at_most l.strangers s
+
+-- the matter of a line for which there was no place: what it is about, without its address and cause
+abbrev pub matter : Subject → Subject
+matter s = record { ip = 0; about = s.about; cause = None }
+
+-- the lines that were left out, after one about a subject with what comes of it
+abbrev pub left_out_after : List Counted → Room → Subject → List Counted
+left_out_after left_out Written s = left_out
+left_out_after left_out Repeated s = left_out
+left_out_after left_out LeftOut s = counted 16 left_out (matter s)
+
+-- the second after a line
+abbrev pub taken : LinesState → Line → LinesState
+taken l OfUser = l
+taken l (OfRefresh port) = record l { refreshes = one_more l.refreshes (key_of port) }
+taken l (OfPeers user) = record l { peers = one_more l.peers user.now }
+taken l OfCommit = record l {
+  commits = counted 1 l.commits commit;
+  left_out = left_out_after l.left_out (room_in 1 l.commits commit) commit;
+}
+taken l (Of s) = record l {
+  users = counted users_at_most l.users s;
+  left_out = left_out_after l.left_out (room_in users_at_most l.users s) s;
+}
+taken l (OfStranger s) = record l {
+  strangers = counted strangers_at_most l.strangers s;
+  left_out = left_out_after l.left_out (room_in strangers_at_most l.strangers s) s;
+}
+
+-- a line is of a stranger
+abbrev pub is_of_stranger : Line → Bool
+is_of_stranger OfUser = false
+is_of_stranger (OfRefresh port) = false
+is_of_stranger (OfPeers user) = false
+is_of_stranger OfCommit = false
+is_of_stranger (Of s) = false
+is_of_stranger (OfStranger s) = true

@@ -1,7 +1,11 @@
 //! Why a request with credentials is answered 401.
 
-ghost use Rattle.std.specs.Prelude.{◌≡◌, IfSome, None, Some, if◌then◌else◌};
-ghost use Rattle.turn_log.specs.Causes.{cause_of, has_credentials};
+ghost use Rattle.std.specs.Prelude.{◌≡◌, None, Some, ℕ, List, false, true, if◌then◌else◌};
+ghost use Rattle.turn_codec.specs.Prelude.{Datagram};
+ghost use Rattle.turn_cred.specs.Prelude.{Keys, Passed, Policy, verdict};
+ghost use Rattle.turn_cred.specs.declared.key.Key.{Key};
+ghost use Rattle.turn_log.specs.Causes.{cause_of, has_credentials, has_passed, refusal};
+ghost use Rattle.turn_types.specs.declared.address.Endpoint.{Endpoint as Client};
 
 use turn_codec::{AttributeType, Message};
 use turn_cred::AuthHandler;
@@ -60,3 +64,24 @@ pub fn cause_of<H: AuthHandler>(realm: &[u8], handler: &H, message: &Message<'_>
     }
     Cause::Expired
 }
+
+/// Whether the credentials of a request passed that was answered by an error of this code, so that its sender is a known user. A nonce
+/// that doesn't hold (438) isn't enough: who saw a request on its way can send it again from any address.
+pub fn has_passed(code: u16, message: &Message<'_>) -> bool
+    ensures { result ≡ has_passed code message.now }
+{
+    match code {
+        401 | 438 => false,
+        400 => has_credentials(message),
+        _ => true,
+    }
+}
+
+/// Who is refused by the credential check hasn't passed, and a user who is refused later has, unless it is by 401 or 438.
+#[tactic(auto, unfolding(turn_cred::specs::Credential::verdict))]
+pub fn refused_credentials_have_not_passed()
+    ensures refused { (p : Policy) (keys : Keys) (d : Datagram) (client : Client) (t code : ℕ)
+        → refusal (verdict p keys d client t) ≡ Some code → has_passed code d ≡ false }
+    ensures bad { (p : Policy) (keys : Keys) (d : Datagram) (client : Client) (t : ℕ) (user : List ℕ) (key : Key)
+        → verdict p keys d client t ≡ Passed user key → has_passed 400 d ≡ true }
+{}

@@ -1,8 +1,7 @@
 //! How often a second had lines about the same.
 
-ghost use Rattle.std.specs.Prelude.{◌≡◌, ◌<◌, ◌≤◌, ◌↔◌, [], IsSome, None, length};
-ghost use Rattle.turn_log.specs.Lines.{counted, is_same, number_of, ordinal, place_in};
-ghost use Rattle.turn_log.specs.declared.counts.Room.TheVariants as rooms;
+ghost use Rattle.std.specs.Prelude.{◌≡◌, ◌≤◌, [], length};
+ghost use Rattle.turn_log.specs.Counting.{counted, is_same, number_of, ordinal, place_in, room_in};
 
 use crate::cause::Cause;
 use arrayvec::ArrayVec;
@@ -20,7 +19,7 @@ pub enum About {
     Error(u16),
 }
 
-/// What a line says that isn't of a user who passed.
+/// What a line says that is no success.
 #[derive(Clone, Copy, Debug, Default)]
 pub struct Subject {
     /// The IPv4 address of the client, or 0.
@@ -45,7 +44,7 @@ pub struct Counted {
 pub enum Room {
     /// It is written.
     Written,
-    /// It says what another line of the second says, and is counted.
+    /// It is counted with other lines of the second, of which the next one has the count.
     Repeated,
     /// There is no room for it. It is counted by what it is about.
     LeftOut,
@@ -117,8 +116,7 @@ impl<const N: usize> Counts<N> {
     /// Counts a subject. One that is new finds no room where there are `N`.
     pub(crate) fn count(&mut self, subject: Subject) -> Room
         ensures counted { self.new ≡ counted N self.old subject }
-        ensures repeated { (result ≡ rooms.Repeated) ↔ IsSome (place_in self.old subject) }
-        ensures written { (result ≡ rooms.Written) ↔ ((place_in self.old subject ≡ None) × (length self.old < N)) }
+        ensures room { result ≡ room_in N self.old subject }
     {
         if let Some(place) = place_in(self.counts.as_slice(), &subject) {
             let listed = self.counts.as_mut_slice();
