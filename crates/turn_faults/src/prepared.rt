@@ -16,7 +16,7 @@ use std::rt::Files;
 use turn_config::{ConfigTextError, Configured, read_config};
 use turn_cred::Credentials;
 use turn_ports::PortRange;
-use turn_sockets::ListeningAddresses;
+use turn_sockets::{ListeningAddresses, LocalPeers};
 use turn_types::{Endpoint, ServerConfig};
 
 /// A configuration.
@@ -32,6 +32,8 @@ pub struct Prepared {
     pub ports: PortRange,
     /// The address on which relay sockets are bound, if it isn't the one that clients are told.
     pub relay_bind: Option<u32>,
+    /// The peers on the server's own machine that relay ports may send to.
+    pub local_peers: LocalPeers,
 }
 
 /// What a log says of an address that is given twice.
@@ -93,6 +95,7 @@ pub fn prepare<R: Files + AllocGlobal>(
         listen,
         ports,
         relay_bind,
+        local_peers,
         ..
     } = configure(rt.alloc(), config, &text)?;
     Ok(Prepared {
@@ -101,5 +104,6 @@ pub fn prepare<R: Files + AllocGlobal>(
         listen: listening_of(rt.alloc(), listen, others)?,
         ports,
         relay_bind,
+        local_peers,
     })
 }

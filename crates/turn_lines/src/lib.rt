@@ -2,6 +2,7 @@
 #![tactic(auto)]
 
 mod asked;
+mod counted;
 mod done;
 mod fields;
 mod lines;

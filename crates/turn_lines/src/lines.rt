@@ -8,6 +8,7 @@ ghost use Rattle.turn_log.specs.declared.limit.Line.TheVariants as lines;
 ghost use Rattle.turn_log.specs.declared.response.Response.TheVariants as responses;
 
 use crate::asked::Asked;
+use crate::counted::{left_out_text, refreshes_text, repeated_text};
 use crate::done::{Done, done_of};
 use crate::fields::{
     Answer, Known, asked_text, at_text, name_text, peers_text, port_text, reason_text,
@@ -15,10 +16,10 @@ use crate::fields::{
 };
 use crate::usage::{Usage, Usages};
 use std::alloc::{AllocError, Allocator, Global};
-use std::io::Write;
+use std::io::{self, Write};
 use std::marker::Model;
+use std::mem;
 use std::time::Duration;
-use std::{fmt, mem};
 use turn_codec::{AttributeType, Message};
 use turn_config::{ShownEndpoint, ShownIp};
 use turn_log::{
@@ -47,62 +48,6 @@ fn end_text(alloc: Global, usage: Option<&Usage>, second: u64) -> Result<String,
         Some(usage) => usage.text(alloc, second),
         None => Ok(String::new(alloc)),
     }
-}
-
-/// What lines are about, in their counts.
-#[derive(Clone, Copy)]
-struct ShownAbout(About);
-
-impl fmt::Display for ShownAbout {
-    fn fmt<W: fmt::Write>(&self, f: &mut fmt::Formatter<W>) -> fmt::Result {
-        match self.0 {
-            About::Commit => write!(f, "slow commit"),
-            About::Repeat => write!(f, "repeated allocate"),
-            About::Error(code) => write!(f, "{code}"),
-        }
-    }
-}
-
-/// How often something came in a second that had one line.
-fn repeated_text(alloc: Global, counted: &Counted) -> Result<String, AllocError> {
-    let (count, Subject { ip, about, cause }) = (counted.count, counted.subject);
-    let (about, from) = (ShownAbout(about), ShownIp(ip));
-    match cause {
-        Some(cause) => {
-            let word = cause.word();
-            format!(in alloc; "{count} x {about} {word} from {from}")
-        }
-        None if ip == 0 => format!(in alloc; "{count} x {about}"),
-        None => format!(in alloc; "{count} x {about} from {from}"),
-    }
-}
-
-/// How often an allocation was refreshed in a second that had one line of it. The key is its relayed port.
-fn refreshes_text(alloc: Global, key: &[u8], count: u64) -> Result<String, AllocError> {
-    let port = match key {
-        [high, low] => u16::from_be_bytes([*high, *low]),
-        _ => 0,
-    };
-    format!(in alloc; "{count} x refresh port={port}")
-}
-
-/// How many lines a second lacks, by their codes.
-fn left_out_text(alloc: Global, ended: &LineLimit) -> Result<Option<String>, AllocError> {
-    let mut total = ended.lost();
-    let mut kinds = String::new(alloc);
-    for counted in ended.left_out() {
-        let (count, about) = (counted.count, ShownAbout(counted.subject.about));
-        total = total.saturating_add(count);
-        kinds.push_str(format!(in alloc; " {count} x {about}")?.as_str())?;
-    }
-    if total == 0 {
-        return Ok(None);
-    }
-    if ended.lost() > 0 {
-        let lost = ended.lost();
-        kinds.push_str(format!(in alloc; " {lost} not written")?.as_str())?;
-    }
-    Ok(Some(format!(in alloc; "left out {total}:{kinds}")?))
 }
 
 /// What the line of a success is, of a client with this address. `before` is the relayed port of the allocation that the client had
@@ -156,6 +101,11 @@ fn has_peers<A: Allocator + Copy>(answer: Answer<'_, A>, response: Response) -> 
     }
 }
 
+/// Whether what goes to a client is data of a peer, and no response.
+fn is_data(bytes: &[u8]) -> bool {
+    bytes.first() != Some(&1)
+}
+
 /// Whether a log has a line of an allocation that expired: since the process was started, since a table was looked at last, and by now.
 /// What expired before the start was told by the process that ran then, if one did.
 fn is_told(expiry: u64, started: u64, looked: u64, now: u64) -> bool
@@ -171,6 +121,11 @@ pub struct Lines<'l, L: Write + Drop> {
     log: &'l Log<L>,
     limit: LineLimit,
     dropped: DroppedCount,
+    // What the system refused to send, and the newest reason.
+    unsent: DroppedCount,
+    refusal: Option<io::Error>,
+    // The second of the newest line of a relay port without a socket.
+    exhausted: u64,
     challenged: Challenged,
     // The second at which the process was started.
     started: u64,
@@ -201,6 +156,9 @@ impl<'l, L: Write + Drop> Lines<'l, L> {
             log,
             limit: LineLimit::new(alloc, 0),
             dropped: DroppedCount::new(),
+            unsent: DroppedCount::new(),
+            refusal: None,
+            exhausted: 0,
             challenged: Challenged::new(),
             started: 0,
             looked: None,
@@ -301,6 +259,19 @@ impl<'l, L: Write + Drop> Lines<'l, L> {
         }
     }
 
+    fn tell_unsent(&mut self, second: u64)
+        ensures { self.new ≡ self.old }
+    {
+        let unsent = self.unsent.begin(second);
+        let Some(reason) = self.refusal else {
+            return;
+        };
+        if 0 < unsent {
+            let text = format!(in self.alloc; "{unsent} datagrams not sent: {reason}");
+            self.put(second, NOBODY, text);
+        }
+    }
+
     // Begins a second, and says what was repeated, left out and dropped in the one before.
     fn begin(&mut self, second: u64)
         ensures { self.new ≡ self.old }
@@ -314,6 +285,7 @@ impl<'l, L: Write + Drop> Lines<'l, L> {
             self.tell_left_out(second, &ended);
         }
         self.tell_dropped(second);
+        self.tell_unsent(second);
     }
 
     // What a line of an error is about. None where it has no line: of a 401 by which a client gets the realm and a nonce.
@@ -669,6 +641,67 @@ impl<'l, L: Write + Drop> Lines<'l, L> {
         let second = self.second_of(moment);
         self.begin(second);
         self.dropped.add(1);
+    }
+
+    /// Counts what the system refused to send, which isn't relayed. A line of a later second has how much that was, and the newest reason.
+    pub fn count_unsent<A: Allocator + Copy>(
+        &mut self,
+        table: &Table<A>,
+        outgoing: &Outgoing<A>,
+        reason: io::Error,
+    )
+        ensures { self.new ≡ self.old }
+    {
+        let second = self.second_of(table.moment());
+        self.begin(second);
+        self.unsent.add(1);
+        self.refusal = Some(reason);
+        match outgoing {
+            Outgoing::ToPeer { port, bytes, .. } => {
+                self.usages.count_unsent_to_peer(*port, bytes.len());
+            }
+            Outgoing::ToClient { five_tuple, bytes } => {
+                if let (None, Some(entry)) = (
+                    response_of(bytes.as_slice()),
+                    table.get(*five_tuple),
+                ) {
+                    self.usages
+                        .count_unsent_to_client(entry.port(), bytes.len());
+                }
+            }
+        }
+    }
+
+    /// Says that data is lost which was for an address of the server's own, once for an allocation, with the line that allows it.
+    pub fn note_lost<A: Allocator + Copy>(&mut self, table: &Table<A>, port: u16, to: Endpoint)
+        ensures { self.new ≡ self.old }
+    {
+        if !self.usages.is_first_lost(port) {
+            return;
+        }
+        if let Some((five_tuple, entry)) = table.by_port(port) {
+            let second = self.second_of(table.moment());
+            let (client, peer) = (ShownEndpoint(five_tuple.client), ShownEndpoint(to));
+            let (ip, at) = (ShownIp(to.ip), to.port);
+            let text = format!(in self.alloc;
+                "client {client} loses data port={port} peer={peer}: an address of the server's own, without a line local-peer {ip} {at} {at}"
+            );
+            self.put(second, ShownName(entry.user()), text);
+        }
+    }
+
+    /// Says that the system had no socket for a relay port, by this number, once a second.
+    pub fn note_exhausted(&mut self, moment: Moment, number: i32)
+        ensures { self.new ≡ self.old }
+    {
+        let second = self.second_of(moment);
+        self.begin(second);
+        if self.exhausted < second {
+            self.exhausted = second;
+            let reason = io::Error::from_raw_os_error(number);
+            let text = format!(in self.alloc; "no socket for a relay port: {reason}");
+            self.put(second, NOBODY, text);
+        }
     }
 
     /// Says how long a commit took, if that is logged.

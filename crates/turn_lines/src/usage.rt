@@ -1,6 +1,7 @@
 //! What a log counts of each allocation.
 
 use std::alloc::{AllocError, Allocator, Global};
+use std::mem;
 use turn_log::Traffic;
 use turn_table::{Entry, Table};
 use turn_types::Endpoint;
@@ -12,10 +13,15 @@ pub(crate) struct Usage {
     since: u64,
     to_peers: Traffic,
     to_client: Traffic,
+    // What of these the system refused to send.
+    unsent_to_peers: Traffic,
+    unsent_to_client: Traffic,
     // Whether a channel had no permission when the table was looked at last.
     is_lapsed: bool,
     // Whether there was a line of data that is dropped for it.
     is_told: bool,
+    // Whether there was a line of data that is lost, since it was for an address of the server's own.
+    is_lost_told: bool,
 }
 
 impl Usage {
@@ -29,7 +35,8 @@ impl Usage {
     /// What the line of the end of an allocation has: its age in seconds, and what was relayed.
     pub(crate) fn text(&self, alloc: Global, second: u64) -> Result<String, AllocError> {
         let age = second.saturating_sub(self.since);
-        let (out, back) = (self.to_peers, self.to_client);
+        let out = self.to_peers.without(self.unsent_to_peers);
+        let back = self.to_client.without(self.unsent_to_client);
         let (sent, sent_bytes) = (out.datagrams, out.bytes);
         let (returned, returned_bytes) = (back.datagrams, back.bytes);
         format!(in alloc;
@@ -110,6 +117,28 @@ impl Usages {
     pub(crate) fn count_to_client(&mut self, port: u16, bytes: usize) {
         if let Some(usage) = self.get_mut(port) {
             usage.to_client.add(bytes);
+        }
+    }
+
+    /// Counts a datagram to a peer that the system refused to send.
+    pub(crate) fn count_unsent_to_peer(&mut self, port: u16, bytes: usize) {
+        if let Some(usage) = self.get_mut(port) {
+            usage.unsent_to_peers.add(bytes);
+        }
+    }
+
+    /// Counts a datagram to the client that the system refused to send.
+    pub(crate) fn count_unsent_to_client(&mut self, port: u16, bytes: usize) {
+        if let Some(usage) = self.get_mut(port) {
+            usage.unsent_to_client.add(bytes);
+        }
+    }
+
+    /// Whether data of a port is lost for the first time.
+    pub(crate) fn is_first_lost(&mut self, port: u16) -> bool {
+        match self.get_mut(port) {
+            Some(usage) => !mem::replace(&mut usage.is_lost_told, true),
+            None => false,
         }
     }
 

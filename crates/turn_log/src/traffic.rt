@@ -22,4 +22,14 @@ impl Traffic {
         self.datagrams = self.datagrams.saturating_add(1);
         self.bytes = self.bytes.saturating_add(bytes as u64);
     }
+
+    /// The same without some of it.
+    pub fn without(self, some: Traffic) -> Traffic
+        ensures { result ≡ record { datagrams = self.datagrams - some.datagrams; bytes = self.bytes - some.bytes } }
+    {
+        Traffic {
+            datagrams: self.datagrams.saturating_sub(some.datagrams),
+            bytes: self.bytes.saturating_sub(some.bytes),
+        }
+    }
 }

@@ -251,6 +251,7 @@ fn start<'a, 'w, 'l, D: Disk + Drop, R: Host, C: Clock, L: Write + Drop>(
         listen,
         ports,
         relay_bind,
+        local_peers,
     } = prepared;
     let relay_bind = service.relay_bind.or(relay_bind);
     let setup = Setup {
@@ -258,6 +259,7 @@ fn start<'a, 'w, 'l, D: Disk + Drop, R: Host, C: Clock, L: Write + Drop>(
         listen: &listen,
         ports,
         relay_bind,
+        local_peers: &local_peers,
         burst: service.burst,
         commits: commits_of(service.turns),
         seed,

@@ -15,7 +15,7 @@ use turn_log::{Log, ShownName};
 use turn_serving::Watch;
 use turn_step::{Arrival, Outgoing};
 use turn_table::Table;
-use turn_types::Moment;
+use turn_types::{Endpoint, Moment};
 
 /// After how many seconds a path is looked at again.
 const AGAIN: u64 = 10;
@@ -205,6 +205,35 @@ impl<'w, 'l, R: Files<File = File>, L: Write + Drop> Watch for &'w StoreWatch<'l
         if let Some(lines) = &self.lines {
             if let Ok(mut lines) = lines.try_borrow_mut() {
                 lines.see(moment, table, outgoing);
+            }
+        }
+    }
+
+    fn unsent<A: Allocator + Copy>(
+        &self,
+        table: &Table<A>,
+        outgoing: &Outgoing<A>,
+        reason: io::Error,
+    ) {
+        if let Some(lines) = &self.lines {
+            if let Ok(mut lines) = lines.try_borrow_mut() {
+                lines.count_unsent(table, outgoing, reason);
+            }
+        }
+    }
+
+    fn lost<A: Allocator + Copy>(&self, table: &Table<A>, port: u16, to: Endpoint) {
+        if let Some(lines) = &self.lines {
+            if let Ok(mut lines) = lines.try_borrow_mut() {
+                lines.note_lost(table, port, to);
+            }
+        }
+    }
+
+    fn exhausted(&self, moment: Moment, number: i32) {
+        if let Some(lines) = &self.lines {
+            if let Ok(mut lines) = lines.try_borrow_mut() {
+                lines.note_exhausted(moment, number);
             }
         }
     }

@@ -18,6 +18,7 @@ use turn_disk::Disk;
 use turn_engine::{Beside, Server};
 use turn_sockets::{MachineAddresses, OwnAddresses, SocketRecord};
 use turn_step::{Arrival, Outgoing};
+use turn_table::Table;
 use turn_types::Endpoint;
 
 /// Whether an address is one of this machine. Before its addresses are known each counts as one.
@@ -53,11 +54,24 @@ fn is_listening<A: Allocator>(
 /// Shows the watch what the system refused to send.
 fn tell_unsent<A: Allocator + Copy, W: Watch + Drop>(
     watch: &W,
+    table: &Table<A>,
     outgoing: &Outgoing<A>,
     refusal: Option<io::Error>,
 ) {
     if let Some(reason) = refusal {
-        watch.unsent(outgoing, reason);
+        watch.unsent(table, outgoing, reason);
+    }
+}
+
+/// Shows the watch what is lost that was for another program of the server's machine.
+fn tell_lost<A: Allocator + Copy, W: Watch + Drop>(
+    listening: &Listening<W, A>,
+    table: &Table<A>,
+    port: u16,
+    to: Endpoint,
+) {
+    if !is_listening(&listening.own, &listening.machine, to) {
+        listening.watch.lost(table, port, to);
     }
 }
 
@@ -104,6 +118,7 @@ fn is_lost<A: Allocator>(
 fn send<G: RelaySockets, A: Allocator + Copy, W: Watch + Drop>(
     listening: &Listening<W, A>,
     ports: &G,
+    table: &Table<A>,
     record: &mut SocketRecord,
     outgoing: &Outgoing<A>,
 )
@@ -115,18 +130,18 @@ fn send<G: RelaySockets, A: Allocator + Copy, W: Watch + Drop>(
             // The address that the client sent to.
             if let Some(socket) = listening.socket_of(*five_tuple) {
                 let refusal = socket.send(record, bytes.as_slice(), five_tuple.client);
-                tell_unsent(&listening.watch, outgoing, refusal);
+                tell_unsent(&listening.watch, table, outgoing, refusal);
             }
         }
         Outgoing::ToPeer { port, peer, bytes } => {
             let to = listening.own.sent_to(*peer);
             if is_lost(&listening.own, &listening.machine, to) {
-                listening.watch.lost(*port, to);
+                tell_lost(listening, table, *port, to);
                 return;
             }
             if let Some(socket) = ports.socket(*port) {
                 let refusal = socket.send(record, bytes.as_slice(), to);
-                tell_unsent(&listening.watch, outgoing, refusal);
+                tell_unsent(&listening.watch, table, outgoing, refusal);
             }
         }
     }
@@ -149,7 +164,7 @@ pub(crate) fn send_all<
         server.now.machine.ports (map sent_of outgoing.now) out }
 {
     for datagram in outgoing {
-        send(listening, server.ports(), record, datagram);
+        send(listening, server.ports(), server.table(), record, datagram);
     }
     if let Some(number) = server.ports().take_exhausted() {
         listening.watch.exhausted(server.clock(), number);
@@ -171,7 +186,7 @@ pub(crate) fn send_answer<H: AuthHandler, G: RelaySockets, A: Allocator + Copy, 
         beside.now.machine.ports (option_to_list (option_map sent_of answer.now)) out }
 {
     if let Some(datagram) = answer {
-        send(listening, beside.ports(), record, datagram);
+        send(listening, beside.ports(), beside.table(), record, datagram);
     }
     listening
         .watch

@@ -28,11 +28,16 @@ pub trait Watch {
     fn sent<A: Allocator + Copy>(&self, moment: Moment, table: &Table<A>, outgoing: &[Outgoing<A>]);
 
     /// The system refused to send this, for this reason. It is one of those that `answered` or `sent` shows next.
-    fn unsent<A: Allocator + Copy>(&self, outgoing: &Outgoing<A>, reason: io::Error);
+    fn unsent<A: Allocator + Copy>(
+        &self,
+        table: &Table<A>,
+        outgoing: &Outgoing<A>,
+        reason: io::Error,
+    );
 
-    /// What the relay port was to send to this address is lost, since the address is the server's own. It is one of those that `answered` or
-    /// `sent` shows next.
-    fn lost(&self, port: u16, to: Endpoint);
+    /// What the relay port was to send to this address is lost: another program of the server's machine may be there, which is no local peer.
+    /// It is one of those that `answered` or `sent` shows next.
+    fn lost<A: Allocator + Copy>(&self, table: &Table<A>, port: u16, to: Endpoint);
 
     /// The system refused a socket for a relay port at this moment, by this number: no other port would have changed that.
     fn exhausted(&self, moment: Moment, number: i32);
@@ -67,9 +72,14 @@ impl Watch for Silent {
         _outgoing: &[Outgoing<A>],
     ) {}
 
-    fn unsent<A: Allocator + Copy>(&self, _outgoing: &Outgoing<A>, _reason: io::Error) {}
+    fn unsent<A: Allocator + Copy>(
+        &self,
+        _table: &Table<A>,
+        _outgoing: &Outgoing<A>,
+        _reason: io::Error,
+    ) {}
 
-    fn lost(&self, _port: u16, _to: Endpoint) {}
+    fn lost<A: Allocator + Copy>(&self, _table: &Table<A>, _port: u16, _to: Endpoint) {}
 
     fn exhausted(&self, _moment: Moment, _number: i32) {}
 

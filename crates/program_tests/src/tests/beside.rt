@@ -130,9 +130,14 @@ impl<'w, 's> Watch for &'w Sending<'s> {
         }
     }
 
-    fn unsent<A: Allocator + Copy>(&self, _outgoing: &Outgoing<A>, _reason: io::Error) {}
+    fn unsent<A: Allocator + Copy>(
+        &self,
+        _table: &Table<A>,
+        _outgoing: &Outgoing<A>,
+        _reason: io::Error,
+    ) {}
 
-    fn lost(&self, _port: u16, _to: Endpoint) {}
+    fn lost<A: Allocator + Copy>(&self, _table: &Table<A>, _port: u16, _to: Endpoint) {}
 
     fn exhausted(&self, _moment: Moment, _number: i32) {}
 

@@ -103,9 +103,14 @@ impl<'c> Watch for &'c Counts {
         _outgoing: &[Outgoing<A>],
     ) {}
 
-    fn unsent<A: Allocator + Copy>(&self, _outgoing: &Outgoing<A>, _reason: io::Error) {}
+    fn unsent<A: Allocator + Copy>(
+        &self,
+        _table: &Table<A>,
+        _outgoing: &Outgoing<A>,
+        _reason: io::Error,
+    ) {}
 
-    fn lost(&self, _port: u16, _to: Endpoint) {}
+    fn lost<A: Allocator + Copy>(&self, _table: &Table<A>, _port: u16, _to: Endpoint) {}
 
     fn exhausted(&self, _moment: Moment, _number: i32) {}
 
