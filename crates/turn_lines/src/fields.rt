@@ -30,12 +30,12 @@ pub struct Known {
 }
 
 impl Known {
-    /// Why a request with credentials was answered 401.
-    pub(crate) fn cause(&self, message: &Message<'_>) -> Option<Cause> {
+    /// Why a request with credentials was answered 401, at this second or before.
+    pub(crate) fn cause(&self, message: &Message<'_>, second: u64) -> Option<Cause> {
         if !has_credentials(message) {
             return None;
         }
-        Some(cause_of(self.config.realm(), &self.credentials, message))
+        Some(cause_of(self.config.realm(), &self.credentials, message, second))
     }
 }
 
@@ -291,9 +291,10 @@ pub(crate) fn reason_text<A: Allocator + Copy>(
     answer: Answer<'_, A>,
     message: &Message<'_>,
     code: u16,
+    second: u64,
 ) -> Result<String, AllocError> {
     match code {
-        401 => match known.cause(message) {
+        401 => match known.cause(message, second) {
             Some(cause) => {
                 let word = cause.word();
                 format!(in alloc; " {word}")

@@ -289,14 +289,19 @@ impl<'l, L: Write + Drop> Lines<'l, L> {
     }
 
     // What a line of an error is about. None where it has no line: of a 401 by which a client gets the realm and a nonce.
-    fn subject<A: Allocator + Copy>(&mut self, answer: Answer<'_, A>, code: u16) -> Option<Subject>
+    fn subject<A: Allocator + Copy>(
+        &mut self,
+        second: u64,
+        answer: Answer<'_, A>,
+        code: u16,
+    ) -> Option<Subject>
         // Only a 401 may have no line.
         ensures none { IfNone result (code ≡ 401) }
         ensures some { IfSome result (λ s. (s.ip ≡ answer.entry.five_tuple.client.ip) × (s.about ≡ matters.Error code)) }
         ensures same { self.new ≡ self.old }
     {
         let cause = match (&self.known, answer.message()) {
-            (Some(known), Some(message)) if code == 401 => known.cause(&message),
+            (Some(known), Some(message)) if code == 401 => known.cause(&message, second),
             _ => None,
         };
         if code == 401 && cause.is_none() && !self.challenged.note(answer.five_tuple) {
@@ -341,7 +346,7 @@ impl<'l, L: Write + Drop> Lines<'l, L> {
             Response::Error(code) => {
                 let has_passed = answer.has_passed(code);
                 let name = name_text(self.alloc, answer, message, has_passed)?;
-                let reason = reason_text(self.alloc, known, answer, message, code)?;
+                let reason = reason_text(self.alloc, known, answer, message, code, second)?;
                 format!(in self.alloc; "{name}{reason}")
             }
         }
@@ -436,7 +441,7 @@ impl<'l, L: Write + Drop> Lines<'l, L> {
                     answer.entry().map(|entry| (entry.port(), entry.user())),
                 )
             }
-            Response::Error(code) => match self.subject(answer, code) {
+            Response::Error(code) => match self.subject(second, answer, code) {
                 Some(subject) => line_of_error(subject, answer.has_passed(code)),
                 None => return,
             },

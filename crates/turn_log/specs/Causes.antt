@@ -3,7 +3,7 @@ use Rattle.std.specs.Prelude.{ℕ, not, ◌&&◌, ◌||◌, ◌==◌, Bool, fals
 use Rattle.std.specs.Option.{option_map_or}
 use Rattle.turn_codec.specs.Prelude.{username, realm, nonce, Datagram, seen_value, is_seen}
 use Rattle.turn_cred.specs.Credential.Verdict.{Challenge401}
-use Rattle.turn_cred.specs.Prelude.{Keys, Verdict, Bad400, Passed, Stale438, has_integrity}
+use Rattle.turn_cred.specs.Prelude.{Keys, Verdict, Bad400, Passed, Stale438, has_expired, has_integrity}
 use Rattle.turn_mac.specs.Integrity.{has_right_integrity}
 use Rattle.turn_types.specs.Prelude.{first_row}
 use Rattle.turn_log.specs.declared.cause.Cause.{Cause}
@@ -24,6 +24,12 @@ cause_of its_realm keys d =
     (is_none key, Unknown) ∷
     (not (option_map_or (λ k. has_right_integrity k.bytes d) key false), Integrity) ∷ [])
     Expired
+
+-- a request with credentials gets 401 at a moment: it doesn't have the realm, and a right integrity under a key that hasn't expired
+abbrev pub gets_401 : ℕ → List ℕ → Keys → Datagram → Bool
+gets_401 t its_realm keys d =
+    let key = keys (unwrap_or (seen_value d.content username) []) its_realm in
+    not (bytes_eq (unwrap_or (seen_value d.content realm) []) its_realm && option_map_or (λ k. has_right_integrity k.bytes d && not (has_expired t k)) key false)
 
 -- The credentials of a request that was answered by an error passed. By 401 and 438 they didn't, nor by a 400 to one with a
 -- MESSAGE-INTEGRITY and no name, realm or nonce before it. What is answered by another code has passed.

@@ -4,7 +4,7 @@ ghost use Rattle.std.specs.Prelude.{◌≡◌, None, Some, ℕ, List, false, tru
 ghost use Rattle.turn_codec.specs.Prelude.{Datagram};
 ghost use Rattle.turn_cred.specs.Prelude.{Keys, Passed, Policy, verdict};
 ghost use Rattle.turn_cred.specs.declared.key.Key.{Key};
-ghost use Rattle.turn_log.specs.Causes.{cause_of, has_credentials, has_passed, refusal};
+ghost use Rattle.turn_log.specs.Causes.{cause_of, gets_401, has_credentials, has_passed, refusal};
 ghost use Rattle.turn_types.specs.declared.address.Endpoint.{Endpoint as Client};
 
 use turn_codec::{AttributeType, Message};
@@ -46,9 +46,16 @@ pub fn has_credentials(message: &Message<'_>) -> bool
         && message.is_seen(AttributeType::NONCE)
 }
 
-/// Why a request with credentials was answered 401, as the handler of the realm's users knows them.
-pub fn cause_of<H: AuthHandler>(realm: &[u8], handler: &H, message: &Message<'_>) -> Cause
-    ensures { result ≡ cause_of realm.now (H.key_of handler.now) message.now }
+/// Why a request with credentials was answered 401, as the handler of the realm's users knows them, by a second in which it still gets
+/// that. Its integrity is computed again only where the key has expired, since else nothing but that can be wrong.
+pub fn cause_of<H: AuthHandler>(
+    realm: &[u8],
+    handler: &H,
+    message: &Message<'_>,
+    second: u64,
+) -> Cause
+    ensures { gets_401 second realm.now (H.key_of handler.now) message.now ≡ true
+        → result ≡ cause_of realm.now (H.key_of handler.now) message.now }
 {
     let user = message
         .seen_value(AttributeType::USERNAME)
@@ -59,10 +66,15 @@ pub fn cause_of<H: AuthHandler>(realm: &[u8], handler: &H, message: &Message<'_>
     let Some(key) = handler.key(user, realm) else {
         return Cause::Unknown;
     };
-    if !integrity_holds(message, &key.bytes) {
-        return Cause::Integrity;
+    let has_expired = match key.expiry {
+        Some(expiry) => expiry.seconds() <= second,
+        None => false,
+    };
+    if has_expired && integrity_holds(message, &key.bytes) {
+        Cause::Expired
+    } else {
+        Cause::Integrity
     }
-    Cause::Expired
 }
 
 /// Whether the credentials of a request passed that was answered by an error of this code, so that its sender is a known user. A nonce
