@@ -12,7 +12,7 @@ use std::rt::Files;
 use turn_config::{Configured, read_config};
 use turn_cred::Credentials;
 use turn_ports::PortRange;
-use turn_sockets::ListeningAddresses;
+use turn_sockets::{ListeningAddresses, LocalPeers};
 use turn_types::{Endpoint, ServerConfig};
 
 /// A configuration.
@@ -28,6 +28,8 @@ pub struct Prepared {
     pub ports: PortRange,
     /// The address on which relay sockets are bound, if it isn't the one that clients are told.
     pub relay_bind: Option<u32>,
+    /// The peers on the server's own machine that relay ports may send to.
+    pub local_peers: LocalPeers,
 }
 
 /// The addresses that clients send to: that of a configuration and others. One that is there twice is a usage fault.
@@ -62,6 +64,7 @@ pub fn prepare<R: Files + AllocGlobal>(
         listen,
         ports,
         relay_bind,
+        local_peers,
         ..
     } = read_config(rt.alloc(), &text)?;
     Ok(Prepared {
@@ -70,5 +73,6 @@ pub fn prepare<R: Files + AllocGlobal>(
         listen: listening_of(listen, others)?,
         ports,
         relay_bind,
+        local_peers,
     })
 }
