@@ -272,6 +272,7 @@ fn start<
         listen,
         ports,
         relay_bind,
+        local_peers,
     } = prepared;
     let relay_bind = service.relay_bind.or(relay_bind);
     let setup = Setup {
@@ -279,6 +280,7 @@ fn start<
         listen: &listen,
         ports,
         relay_bind,
+        local_peers: &local_peers,
         burst: service.burst,
         commits: commits_of(service.turns),
         seed,
