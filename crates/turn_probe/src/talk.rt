@@ -134,11 +134,11 @@ fn send_there(
     Err(ClientError::Silent)
 }
 
-/// Whether a message has the data of a peer.
-fn is_back(bytes: &[u8]) -> bool {
+/// Whether a message has this data of a peer.
+fn has_data(bytes: &[u8], sent: &[u8]) -> bool {
     match Message::parse(bytes) {
         Ok(message) =>
-            matches!(read_message(&message), Some(ServerMessage::Data(_, data)) if data == BACK),
+            matches!(read_message(&message), Some(ServerMessage::Data(_, data)) if data == sent),
         Err(_) => false,
     }
 }
@@ -152,7 +152,20 @@ fn send_back(
     for _ in 0..ATTEMPTS {
         peer.send(relayed, BACK)?;
         match client.receive() {
-            Ok(bytes) if is_back(bytes) => return Ok(()),
+            Ok(bytes) if has_data(bytes, BACK) => return Ok(()),
+            Ok(_) | Err(ClientError::Silent | ClientError::Unexpected) => {}
+            Err(error) => return Err(error),
+        }
+    }
+    Err(ClientError::Silent)
+}
+
+/// Sends data to the relayed address itself until it comes to the client.
+fn send_around(client: &mut Client<'_>, relayed: Endpoint) -> Result<(), ClientError> {
+    for _ in 0..ATTEMPTS {
+        client.send_to_peer(relayed, THERE)?;
+        match client.receive() {
+            Ok(bytes) if has_data(bytes, THERE) => return Ok(()),
             Ok(_) | Err(ClientError::Silent | ClientError::Unexpected) => {}
             Err(error) => return Err(error),
         }
@@ -285,6 +298,24 @@ impl<'n, R: Net> Talk<'n, R> {
         relayed.ok_or(failed(step, ProbeReason::Unexpected))
     }
 
+    // Whether the probe is on the server's machine, where a relay port reaches no other port than those of the relay range.
+    fn is_beside(&self) -> bool {
+        self.mapped.ip == self.server.ip
+    }
+
+    // A datagram to the peer and one back; on the server's machine one that the relay port sends to itself.
+    fn send_data(
+        &mut self,
+        client: &mut Client<'_>,
+        relayed: Endpoint,
+    ) -> Result<(), ClientError> {
+        if self.is_beside() {
+            return send_around(client, relayed);
+        }
+        send_there(client, &mut self.peer, self.mapped)?;
+        send_back(client, &self.peer, relayed)
+    }
+
     // A permission for the peer, and a datagram there and back: the milliseconds of both.
     fn send_both_ways<C: Clock>(
         &mut self,
@@ -295,20 +326,17 @@ impl<'n, R: Net> Talk<'n, R> {
         ensures { IfErr result (λ fault. IsAt steps.Permission fault ⊎ IsAt steps.Data fault) }
     {
         let began = now(clock);
-        let peer = [Attribute::Peer(self.mapped)];
+        let peer = if self.is_beside() { relayed } else { self.mapped };
         self.request(
             client,
             ProbeStep::Permission,
             Method::CREATE_PERMISSION,
-            &peer,
+            &[Attribute::Peer(peer)],
         )?;
         let permission = millis_since(clock, began);
         let began = now(clock);
-        send_there(client, &mut self.peer, self.mapped).map_err(|error| failed_by(
-            ProbeStep::Data,
-            error,
-        ))?;
-        send_back(client, &self.peer, relayed).map_err(|error| failed_by(ProbeStep::Data, error))?;
+        self.send_data(client, relayed)
+            .map_err(|error| failed_by(ProbeStep::Data, error))?;
         Ok((permission, millis_since(clock, began)))
     }
 
