@@ -10,7 +10,7 @@ use std::time::Duration;
 use turn::engine::{MemoryDisk, format, least_area};
 use turn::messages::{Builder, Class, Message, Method, read_message};
 use turn::rules::{Limits, PortRange, ServerConfig, Settings, TxId, Users, generate_auth_key};
-use turn::serving::{Commits, ListeningAddresses, ListeningSockets, Setup, Silent};
+use turn::serving::{Commits, ListeningAddresses, ListeningSockets, LocalPeers, Setup, Silent};
 use turn::text::{ShownEndpoint, ShownIp, endpoint, ip};
 
 const REALM: &[u8] = b"example.org";
@@ -60,6 +60,7 @@ fn main(rt: HostRuntime) -> Result<()> {
         listen: &ListeningAddresses::one(listen),
         ports: PortRange::new(61000, 61999).context("ports")?,
         relay_bind: None,
+        local_peers: &LocalPeers::new(),
         burst: 64,
         commits: Commits::EachTurn,
         seed,

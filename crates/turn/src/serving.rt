@@ -4,4 +4,6 @@ pub use turn_serving::{
     Commits, ListeningSockets, RelaySockets, Serving, Setup, SetupError, Silent, SocketServing,
     StartError, TurnError, Watch,
 };
-pub use turn_sockets::{BoundSocket, ListeningAddresses, MAX_LISTENING, SocketPorts, Time};
+pub use turn_sockets::{
+    BoundSocket, ListeningAddresses, LocalPeer, LocalPeers, MAX_LISTENING, SocketPorts, Time,
+};

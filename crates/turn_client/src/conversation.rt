@@ -16,7 +16,7 @@ use turn_mac::generate_auth_key;
 use turn_ports::PortRange;
 use turn_requests::{Attribute, ServerMessage, read_message};
 use turn_serving::{Commits, ListeningSockets, Setup, Silent, SocketServing};
-use turn_sockets::ListeningAddresses;
+use turn_sockets::{ListeningAddresses, LocalPeer, LocalPeers};
 use turn_types::{Bounds, ConfigError, Endpoint, Limits, Method, ServerConfig, Settings};
 
 /// 127.0.0.1.
@@ -33,6 +33,17 @@ const CREDENTIALS: ClientCredentials<'static> = ClientCredentials {
     realm: b"example.org",
     password: b"wonder",
 };
+
+/// The peers of a conversation, which are on its server's machine: any port of the loopback.
+fn local_peers() -> LocalPeers {
+    let mut peers = LocalPeers::new();
+    peers.add(LocalPeer {
+        ip: LOOPBACK,
+        first: 0,
+        last: u16::MAX,
+    });
+    peers
+}
 
 /// The limits of the server: its store needs few bytes.
 pub fn limits() -> Limits
@@ -195,6 +206,7 @@ impl<'a, R: Net + Files + Drop, A: Allocator + Copy> Loopback<'a, R, A> {
             listen: &listen,
             ports: plan.ports,
             relay_bind: None,
+            local_peers: &local_peers(),
             burst: plan.burst,
             commits: plan.commits,
             seed: seed_of(client.local()),

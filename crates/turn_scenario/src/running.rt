@@ -159,6 +159,7 @@ impl<'a, A: Allocator + Copy> Running<'a, A> {
             passwords,
             auth_secret,
             relay_bind: _,
+            local_peers: _,
         } = configured;
         let (disk, outcome) = format_disk(alloc, config.limits(), version, area)?;
         let client = Client {

@@ -22,6 +22,7 @@ pub fn start<'a, D: Disk + Drop, C: Clock, W: Watch + Drop>(
         credentials,
         listen,
         ports,
+        local_peers,
         ..
     } = configured;
     let setup = Setup {
@@ -29,6 +30,7 @@ pub fn start<'a, D: Disk + Drop, C: Clock, W: Watch + Drop>(
         listen: &ListeningAddresses::one(listen),
         ports,
         relay_bind: None,
+        local_peers: &local_peers,
         burst: 1,
         commits,
         seed: [0; 32],
