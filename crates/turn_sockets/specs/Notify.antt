@@ -2,10 +2,11 @@
 use Rattle.std.specs.Prelude.{ℕ, ◌+◌, ◌-◌, ◌++◌, ◌∷◌, ◌&&◌, ◌||◌, Bool, nat_eq, nat_le, if◌then◌else◌, List, [], Option, Some, None, length, replicate}
 use Rattle.turn_sockets.specs.declared.notify.UnixAddress.{UnixAddress}
 
--- `@`, with which an abstract name begins, and `/`, with which a path from the root on does
+-- `@`, with which an abstract name begins
 abbrev at_sign : ℕ
 at_sign = 64
 
+-- `/`, with which a path from the root on does
 abbrev slash : ℕ
 slash = 47
 
