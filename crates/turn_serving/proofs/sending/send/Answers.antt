@@ -25,7 +25,7 @@ returns-in-Some-socket g c =
     let bytes = c.as_slice-in-Some-socket.ensures.value in
     let out = sent c.in-Some-socket.socket.now c.sent_to-to.result c.as_slice-in-Some-socket.result.now ∷ [] in (
       out,
-      c.send-in-Some-socket.ensures,
+      c.send-refusal-in-Some-socket.ensures,
       subst (λ (o : Outgoing _). SendsOne (port_sockets g.G.RelaySockets.has_socket g.G.RelaySockets.bound) (addresses_of c.args.listening.now.sockets.items c.args.listening.now.own) c.args.ports.now (sent_of o) out) (sym c.in-ToPeer.is)
           (inl (sym c.in-Some-socket.ensures.found, subst (λ (to : Endpoint). ¬ IsLost own to) reached kept, rw (from, reached, bytes) refl)),
     )
