@@ -52,7 +52,9 @@ pub fn fault_of_held(fault: HeldFault) -> ProgramError
 /// What a log says of one.
 fn text_of(alloc: Global, fault: HeldFault) -> Result<String, AllocError> {
     match fault {
-        HeldFault::NotHanded => format!(in alloc; "held: no sockets are handed over (LISTEN_PID, LISTEN_FDS)"),
+        HeldFault::NotHanded => format!(in alloc;
+            "held: no sockets are handed over (LISTEN_PID, LISTEN_FDS)"
+        ),
         HeldFault::TooMany => format!(in alloc; "held: more than 64 sockets are handed over"),
         HeldFault::NotUdp(descriptor) => {
             format!(in alloc; "held: descriptor {descriptor} is no UDP socket over IPv4")
@@ -66,7 +68,9 @@ fn text_of(alloc: Global, fault: HeldFault) -> Result<String, AllocError> {
         }
         HeldFault::Elsewhere(address) => {
             let address = ShownEndpoint(address);
-            format!(in alloc; "held: a socket at {address} is handed over, where the server isn't told to listen")
+            format!(in alloc;
+                "held: a socket at {address} is handed over, where the server isn't told to listen"
+            )
         }
         HeldFault::Memory => format!(in alloc; "held: out of memory"),
     }
