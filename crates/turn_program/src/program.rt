@@ -54,8 +54,9 @@ fn tell<C: Clock, L: Write + Drop>(
 ) -> ProgramError
     ensures { result ≡ fault.kind }
 {
+    let Fault { kind, said } = fault;
     let second = second_now(clock);
-    match fault.said {
+    match &said {
         Said::Nothing => {}
         Said::Output(reason) => {
             if let Ok(line) = format!(in alloc; "standard output: {reason}") {
@@ -64,7 +65,7 @@ fn tell<C: Clock, L: Write + Drop>(
         }
         Said::Line(line) => log.say(second, line.as_str()),
     }
-    fault.kind
+    kind
 }
 
 /// Runs a command, and says at a fault what it is about: nothing else does.
