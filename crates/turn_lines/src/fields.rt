@@ -7,7 +7,7 @@ use crate::asked::Asked;
 use std::alloc::{AllocError, Allocator, Global};
 use turn_codec::{AttributeType, Message, read_xor_address};
 use turn_config::{ShownEndpoint, ShownIp};
-use turn_cred::Credentials;
+use turn_cred::{AuthHandler, Credentials};
 use turn_log::{Cause, CutName, NamedPeers, cause_of, has_credentials, has_passed};
 use turn_player::Effect;
 use turn_scenario::event_text;
@@ -27,6 +27,8 @@ pub struct Known {
     pub credentials: Credentials,
     /// Whether clients send to more than one address.
     pub has_several: bool,
+    /// Whether the server's clock is ahead of the system's.
+    pub is_ahead: bool,
 }
 
 impl Known {
@@ -36,6 +38,13 @@ impl Known {
             return None;
         }
         Some(cause_of(self.config.realm(), &self.credentials, message, second))
+    }
+
+    /// How many seconds ago the name of a request expired, if it has an expiry time that is over.
+    fn expired_for(&self, message: &Message<'_>, second: u64) -> Option<u64> {
+        let user = message.seen_value(AttributeType::USERNAME)?;
+        let key = self.credentials.key(user, self.config.realm())?;
+        second.checked_sub(key.expiry?.seconds())
     }
 }
 
@@ -284,6 +293,31 @@ fn limit_text<A: Allocator + Copy>(
     format!(in alloc; " permissions {permissions} of {most}")
 }
 
+/// Why a request's credentials didn't pass. Of a name that has expired it has for how long, and whether that is by a clock that is
+/// ahead of the system's: the store's.
+fn cause_text(
+    alloc: Global,
+    known: &Known,
+    message: &Message<'_>,
+    second: u64,
+) -> Result<String, AllocError> {
+    let Some(cause) = known.cause(message, second) else {
+        return Ok(String::new(alloc));
+    };
+    let word = cause.word();
+    match (cause, known.expired_for(message, second)) {
+        (Cause::Expired, Some(ago)) => {
+            let by = if known.is_ahead {
+                " (store's clock)"
+            } else {
+                ""
+            };
+            format!(in alloc; " {word} {ago} s ago{by}")
+        }
+        _ => format!(in alloc; " {word}"),
+    }
+}
+
 /// Why a request was refused, beyond the error's code.
 pub(crate) fn reason_text<A: Allocator + Copy>(
     alloc: Global,
@@ -294,13 +328,7 @@ pub(crate) fn reason_text<A: Allocator + Copy>(
     second: u64,
 ) -> Result<String, AllocError> {
     match code {
-        401 => match known.cause(message, second) {
-            Some(cause) => {
-                let word = cause.word();
-                format!(in alloc; " {word}")
-            }
-            None => Ok(String::new(alloc)),
-        },
+        401 => cause_text(alloc, known, message, second),
         403 => denied_text(alloc, known, message),
         486 => quota_text(alloc, known, answer, message),
         508 => limit_text(alloc, answer, message),

@@ -179,6 +179,15 @@ impl<'l, L: Write + Drop> Lines<'l, L> {
         Ok(())
     }
 
+    /// Learns whether the server's clock is ahead of the system's.
+    pub fn set_ahead(&mut self, is_ahead: bool)
+        ensures { self.new ≡ self.old }
+    {
+        if let Some(known) = &mut self.known {
+            known.is_ahead = is_ahead;
+        }
+    }
+
     /// Writes a line. If that can't be done it is counted.
     fn put(&mut self, second: u64, user: ShownName<'_>, text: Result<String, AllocError>)
         ensures { self.new ≡ self.old }

@@ -3,4 +3,4 @@
 
 mod notes;
 
-pub use notes::{Note, Noted, notes_of};
+pub use notes::{Note, Noted, notes_of, read_ahead};

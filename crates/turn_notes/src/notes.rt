@@ -231,7 +231,8 @@ fn read_overlap<R: Files + AllocGlobal>(rt: &R, relay: Ports) -> Option<Note> {
     overlap_note(relay, &range, &reserved)
 }
 
-fn read_ahead<C: Clock>(system: &C, clock: Option<Moment>) -> Option<Note> {
+/// By how much a clock is ahead of the system's, if that is more than a day.
+pub fn read_ahead<C: Clock>(system: &C, clock: Option<Moment>) -> Option<Note> {
     let now = moment_now(&system, Moment::new(0)?)?;
     ahead_note(clock?.seconds(), now.seconds())
 }

@@ -84,13 +84,13 @@ fn random_bytes<R: Host>(rt: &R) -> Result<[u8; 32], Fault>
 }
 
 /// A server over the store on a disk, which a log watches.
-type DiskServing<'a, 'w, 'l, D, R, L> = SocketServing<
+type DiskServing<'a, 'w, 'l, D, R, C, L> = SocketServing<
     'a,
     D,
     Credentials,
     R,
     Global,
-    &'w StoreWatch<'l, R, L>,
+    &'w StoreWatch<'l, R, C, L>,
 >;
 
 /// How often a store that is in use is tried again: a server that ends may have it for a moment yet.
@@ -229,10 +229,10 @@ fn start<'a, 'w, 'l, D: Disk + Drop, R: Host, C: Clock, L: Write + Drop>(
     rt: &'a R,
     clock: &C,
     service: Service<'_>,
-    watch: &'w StoreWatch<'l, R, L>,
+    watch: &'w StoreWatch<'l, R, C, L>,
     taken: Taken,
     disk: D,
-) -> Result<DiskServing<'a, 'w, 'l, D, R, L>, Ended<D>>
+) -> Result<DiskServing<'a, 'w, 'l, D, R, C, L>, Ended<D>>
     ensures started { IfOk result (λ serving. StartedOver D.Disk ⟦<Credentials as AuthHandler>⟧
         ⟦<SocketPorts<'a, R, Global> as RelayAddressGenerator>⟧ disk serving.server) }
     ensures kept { IfErr result (λ ended. KeepsImages D.Disk disk ended.disk) }
@@ -280,7 +280,7 @@ fn start<'a, 'w, 'l, D: Disk + Drop, R: Host, C: Clock, L: Write + Drop>(
 /// Takes turns.
 fn take_turns<'a, D: Disk + Drop, R: Host, C: Clock, L: Write + Drop>(
     rt: &R,
-    serving: &mut DiskServing<'a, '_, '_, D, R, L>,
+    serving: &mut DiskServing<'a, '_, '_, D, R, C, L>,
     clock: &C,
     service: Service<'_>,
 ) -> Result<(), Fault>
@@ -313,7 +313,7 @@ fn print_addresses<W: Write>(
 /// Says where the server listens, takes the turns, and says how many there were.
 fn tell<'a, D: Disk + Drop, R: Host, C: Clock, W: Write, L: Write + Drop>(
     rt: &R,
-    serving: &mut DiskServing<'a, '_, '_, D, R, L>,
+    serving: &mut DiskServing<'a, '_, '_, D, R, C, L>,
     clock: &C,
     service: Service<'_>,
     out: &mut W,
@@ -330,10 +330,10 @@ fn tell<'a, D: Disk + Drop, R: Host, C: Clock, W: Write, L: Write + Drop>(
 }
 
 /// Lets a log know the server: its configuration, which is read once more, and its ports. Without that its lines say less.
-fn inform<R: Host, L: Write + Drop>(
+fn inform<R: Host, C: Clock, L: Write + Drop>(
     rt: &R,
     service: Service<'_>,
-    watch: &StoreWatch<'_, R, L>,
+    watch: &StoreWatch<'_, R, C, L>,
     started: &Started<'_>,
     second: u64,
 ) -> Result<(), Fault> {
@@ -350,6 +350,7 @@ fn inform<R: Host, L: Write + Drop>(
         config,
         credentials,
         has_several: started.listen.len() > 1,
+        is_ahead: started.is_ahead,
     };
     watch.know(known, started.ports, second)?;
     Ok(())
@@ -360,8 +361,8 @@ fn tell_begun<'a, D: Disk + Drop, R: Host, C: Clock, L: Write + Drop>(
     rt: &R,
     clock: &C,
     service: Service<'_>,
-    watch: &StoreWatch<'_, R, L>,
-    serving: &DiskServing<'a, '_, '_, D, R, L>,
+    watch: &StoreWatch<'_, R, C, L>,
+    serving: &DiskServing<'a, '_, '_, D, R, C, L>,
     began: Option<Duration>,
 ) {
     let (second, log) = (second_now(clock), watch.log());
@@ -372,6 +373,7 @@ fn tell_begun<'a, D: Disk + Drop, R: Host, C: Clock, L: Write + Drop>(
         store: service.store,
         generation: serving.server().info().generation,
         live: live_at(serving.server().table(), second),
+        is_ahead: second < serving.server().clock().seconds(),
         took: since(clock, began),
     };
     if !is_uri(service.store) {
@@ -400,7 +402,7 @@ fn serve_over<'a, D: Disk + Drop, R: Host, C: Clock, W: Write, L: Write + Drop>(
     ensures { Serves D.Disk ⟦<Credentials as AuthHandler>⟧
         ⟦<SocketPorts<'a, R, Global> as RelayAddressGenerator>⟧ disk result.disk }
 {
-    let watch = StoreWatch::new(rt.alloc(), rt, service.store, log);
+    let watch = StoreWatch::new(rt.alloc(), rt, clock, service.store, log);
     let began = taken.began;
     let mut serving = match start(rt, clock, service, &watch, taken, disk) {
         Ok(serving) => serving,

@@ -26,6 +26,8 @@ pub struct Started<'a> {
     pub generation: u64,
     /// How many allocations of the store are live.
     pub live: u64,
+    /// Whether the store's clock is ahead of the system's.
+    pub is_ahead: bool,
     /// How long it took, if the system says.
     pub took: Option<Duration>,
 }

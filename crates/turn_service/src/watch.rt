@@ -8,10 +8,12 @@ use std::cell::{Cell, RefCell};
 use std::fs::{self, File};
 use std::io::{self, ErrorKind, Write};
 use std::os::unix::fs::MetadataExt;
-use std::rt::Files;
+use std::rt::{Clock, Files};
 use std::time::Duration;
+use turn_faults::second_now;
 use turn_lines::{Known, Lines};
 use turn_log::{Log, ShownName};
+use turn_notes::{Note, read_ahead};
 use turn_serving::Watch;
 use turn_step::{Arrival, Outgoing};
 use turn_table::Table;
@@ -77,11 +79,17 @@ fn text_of(alloc: Global, path: &str, opened: Place, change: Change) -> Result<S
     }
 }
 
+/// What is said of a clock that is ahead.
+fn note_text(alloc: Global, note: Note) -> Result<String, AllocError> {
+    format!(in alloc; "note: {note}")
+}
+
 /// A log that looks at the path of the store too, each ten seconds.
 #[derive(Drop)]
-pub struct StoreWatch<'l, R: Files<File = File>, L: Write + Drop> {
+pub struct StoreWatch<'l, R: Files<File = File>, C: Clock, L: Write + Drop> {
     alloc: Global,
     files: &'l R,
+    system: &'l C,
     path: &'l str,
     log: &'l Log<L>,
     // None without a log.
@@ -92,19 +100,23 @@ pub struct StoreWatch<'l, R: Files<File = File>, L: Write + Drop> {
     next: Cell<u64>,
     // The second from which on a fault is told again.
     next_told: Cell<u64>,
+    // The system's second from which on its clock is looked at again.
+    next_clock: Cell<u64>,
 }
 
-impl<'l, R: Files<File = File>, L: Write + Drop> StoreWatch<'l, R, L> {
+impl<'l, R: Files<File = File>, C: Clock, L: Write + Drop> StoreWatch<'l, R, C, L> {
     /// Of the store at a path, which isn't open yet.
     pub fn new(
         alloc: Global,
         files: &'l R,
+        system: &'l C,
         path: &'l str,
         log: &'l Log<L>,
-    ) -> StoreWatch<'l, R, L> {
+    ) -> StoreWatch<'l, R, C, L> {
         StoreWatch {
             alloc,
             files,
+            system,
             path,
             log,
             lines: if log.is_kept() {
@@ -115,6 +127,7 @@ impl<'l, R: Files<File = File>, L: Write + Drop> StoreWatch<'l, R, L> {
             opened: Cell::new(None),
             next: Cell::new(0),
             next_told: Cell::new(0),
+            next_clock: Cell::new(second_now(system).saturating_add(TOLD_AGAIN)),
         }
     }
 
@@ -150,6 +163,26 @@ impl<'l, R: Files<File = File>, L: Write + Drop> StoreWatch<'l, R, L> {
         }
     }
 
+    // Says each minute by how much the server's clock is ahead of the system's, if that is more than a day.
+    fn look_at_clock(&self, moment: Moment) {
+        let Some(lines) = &self.lines else {
+            return;
+        };
+        let now = second_now(self.system);
+        if now < self.next_clock.get() {
+            return;
+        }
+        self.next_clock.set(now.saturating_add(TOLD_AGAIN));
+        if let Ok(mut lines) = lines.try_borrow_mut() {
+            lines.set_ahead(now < moment.seconds());
+        }
+        if let Some(note) = read_ahead(self.system, Some(moment)) {
+            if let Ok(text) = note_text(self.alloc, note) {
+                self.log.say(moment.seconds(), text.as_str());
+            }
+        }
+    }
+
     fn look(&self, second: u64) {
         let Some(opened) = self.opened.get() else {
             return;
@@ -165,9 +198,11 @@ impl<'l, R: Files<File = File>, L: Write + Drop> StoreWatch<'l, R, L> {
     }
 }
 
-impl<'w, 'l, R: Files<File = File>, L: Write + Drop> Watch for &'w StoreWatch<'l, R, L> {
+impl<'w, 'l, R: Files<File = File>, C: Clock, L: Write + Drop> Watch
+    for &'w StoreWatch<'l, R, C, L> {
     fn taking<A: Allocator + Copy>(&self, moment: Moment, table: &Table<A>) {
         self.look(moment.seconds());
+        self.look_at_clock(moment);
         if let Some(lines) = &self.lines {
             if let Ok(mut lines) = lines.try_borrow_mut() {
                 lines.look(moment, table);
