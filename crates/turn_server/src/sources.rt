@@ -1,7 +1,7 @@
 //! What this program is made from. This file is written by packaging/digest.
 
 /// The digest of the sources.
-pub const SOURCES: &str = "29f255bb0e6a7cc2a339c71af47aff264c771674555d0ffb4ba93751262fa86a";
+pub const SOURCES: &str = "a711907d7a088238a678b93f30d3d92353cc29ce68ed361380409335ddd7c81b";
 
 /// The toolchain, as it names itself.
 pub const TOOLCHAIN: &str = "rattle-kit-13f logic dac8208d650f15bf";
