@@ -11,8 +11,12 @@ use crate::probe::run_probe;
 use crate::version::{Release, run_version};
 use std::alloc::Global;
 use std::convert::AsStr;
+use std::env::Env;
+use std::fs::File;
 use std::io::Write;
-use std::rt::Clock;
+use std::net::Net;
+use std::random::RandomSource;
+use std::rt::{Clock, Files};
 use turn_cli::{CliError, Command, Ended, command_of};
 use turn_commands::{
     run_answer, run_check, run_credential, run_end, run_format, run_inspect, run_replay, run_status,
@@ -192,15 +196,14 @@ pub fn report<E: Write>(fault: ProgramError, err: &mut E) -> u8
 
 /// Runs the program on its words, its name first, and gives the exit status. `release` says what the program is made from; a server
 /// that is to keep a log writes it to `log`.
-pub fn run_words<R: Host, C: Clock, S: AsStr, W: Write, E: Write, L: Write + Drop>(
-    rt: &R,
-    clock: &C,
-    release: Release<'_>,
-    words: &[S],
-    out: &mut W,
-    err: &mut E,
-    log: L,
-) -> u8
+pub fn run_words<
+    R: Files<File = File> + Net + RandomSource + Env + Drop + AllocGlobal,
+    C: Clock,
+    S: AsStr,
+    W: Write,
+    E: Write,
+    L: Write + Drop,
+>(rt: &R, clock: &C, release: Release<'_>, words: &[S], out: &mut W, err: &mut E, log: L) -> u8
     ensures { IsStatus result }
 {
     match try_words(rt, clock, release, words, out, log) {
