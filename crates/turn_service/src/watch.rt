@@ -79,6 +79,14 @@ fn text_of(alloc: Global, path: &str, opened: Place, change: Change) -> Result<S
     }
 }
 
+/// The seconds of the system's time that doesn't go back, or 0 if it tells none.
+fn seconds_of<C: Clock>(system: &C) -> u64 {
+    match system.monotonic() {
+        Ok(time) => time.as_secs(),
+        Err(_) => 0,
+    }
+}
+
 /// What is said of a clock that is ahead.
 fn note_text(alloc: Global, note: Note) -> Result<String, AllocError> {
     format!(in alloc; "note: {note}")
@@ -100,7 +108,7 @@ pub struct StoreWatch<'l, R: Files<File = File>, C: Clock, L: Write + Drop> {
     next: Cell<u64>,
     // The second from which on a fault is told again.
     next_told: Cell<u64>,
-    // The system's second from which on its clock is looked at again.
+    // When the system's clock is looked at again, in seconds of its time that doesn't go back.
     next_clock: Cell<u64>,
 }
 
@@ -127,7 +135,7 @@ impl<'l, R: Files<File = File>, C: Clock, L: Write + Drop> StoreWatch<'l, R, C, 
             opened: Cell::new(None),
             next: Cell::new(0),
             next_told: Cell::new(0),
-            next_clock: Cell::new(second_now(system).saturating_add(TOLD_AGAIN)),
+            next_clock: Cell::new(seconds_of(system).saturating_add(TOLD_AGAIN)),
         }
     }
 
@@ -168,13 +176,13 @@ impl<'l, R: Files<File = File>, C: Clock, L: Write + Drop> StoreWatch<'l, R, C, 
         let Some(lines) = &self.lines else {
             return;
         };
-        let now = second_now(self.system);
+        let now = seconds_of(self.system);
         if now < self.next_clock.get() {
             return;
         }
         self.next_clock.set(now.saturating_add(TOLD_AGAIN));
         if let Ok(mut lines) = lines.try_borrow_mut() {
-            lines.set_ahead(now < moment.seconds());
+            lines.set_ahead(second_now(self.system) < moment.seconds());
         }
         if let Some(note) = read_ahead(self.system, Some(moment)) {
             if let Ok(text) = note_text(self.alloc, note) {
